@@ -1,0 +1,11 @@
+pub mod Fun
+pub mod Formula
+pub mod Needed
+pub mod Table
+pub mod Index
+pub mod Make
+pub mod Operate
+pub mod Start
+pub mod Work
+pub mod Lent
+pub mod Single
