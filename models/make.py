@@ -1,0 +1,528 @@
+#!/usr/bin/env python3
+"""Writes the model texts (*.hex), NAMES.md, EXPECTED.tsv and vectors.tsv from readable definitions.
+
+Run `python3 make.py` after building the oracle. The verdicts below were settled by argument
+(README.md); the script stops if the oracle gives another one.
+"""
+
+import os
+import subprocess
+import sys
+
+HERE = os.path.dirname(os.path.abspath(__file__))
+ORACLE = os.path.join(HERE, "..", "oracle", "target", "release", "oracle")
+TAU = "tau"
+LIMIT = 1_000_000
+PROGRAM_TABLE = 4096
+LARGEST_TABLE = 1 << 20
+
+names = []    # lines of NAMES.md
+pairs = []    # (left, right, strong verdict, weak verdict)
+
+
+class Family:
+    """A group of models with one numbering of channels."""
+
+    def __init__(self, title):
+        self.title = title
+        self.numbers = {}
+        names.append(f"\n## {title}\n")
+
+    def channel(self, name):
+        number = self.numbers.setdefault(name, len(self.numbers) + 1)
+        assert number <= 31, name
+        return number
+
+    def action(self, word):
+        """`a!` is output and `a?` input on channel a."""
+        if word == TAU:
+            return 0
+        return 2 * self.channel(word[:-1]) + {"!": 0, "?": 1}[word[-1]]
+
+    def finish(self):
+        listed = ", ".join(f"{n} {name}" for name, n in self.numbers.items())
+        names.append(f"Channels: {listed}.")
+
+
+class Model:
+    """Frames in line order; every method returns the number of the line it adds."""
+
+    def __init__(self, family):
+        self.family = family
+        self.frames = []
+        self.comments = []
+
+    def add(self, body, comment):
+        self.frames.append([len(self.frames)] + body)
+        self.comments.append(comment)
+        return len(self.frames) - 1
+
+    def leaf(self, name, steps, states=None):
+        """Steps are (from, action, to) with state names; the first state named is the start."""
+        states = list(states or [])
+        for source, _, target in steps:
+            for state in (source, target):
+                if state not in states:
+                    states.append(state)
+        body = [1, len(states)]
+        for source, word, target in steps:
+            body += [states.index(source), self.family.action(word), states.index(target)]
+        return self.add(body, f"leaf {name}: " + ", ".join(f"{i} {s}" for i, s in enumerate(states)))
+
+    def compose(self, *lines):
+        total = lines[0]
+        for line in lines[1:]:
+            total = self.add([2, total, line], f"compose {total}, {line}")
+        return total
+
+    def restrict(self, line, channels):
+        return self.listed(3, "restrict", [line], channels)
+
+    def hide(self, line, channels):
+        return self.listed(5, "hide", [line], channels)
+
+    def joint(self, one, other, channels):
+        return self.listed(6, "joint", [one, other], channels)
+
+    def listed(self, kind, word, lines, channels):
+        numbers = [self.family.channel(c) for c in channels]
+        text = f"{word} {', '.join(map(str, lines))} on {' '.join(channels) or 'no channel'}"
+        return self.add([kind] + lines + numbers, text)
+
+    def relabel(self, line, **new):
+        """Old name = new name, one line each, in the order given."""
+        for old, to in new.items():
+            body = [4, line, self.family.channel(old), self.family.channel(to)]
+            line = self.add(body, f"relabel {line}, {old} becomes {to}")
+        return line
+
+    def save(self, name):
+        assert len(self.frames) <= 64 and all(2 <= len(f) <= 255 for f in self.frames), name
+        with open(os.path.join(HERE, name + ".hex"), "w", newline="") as file:
+            for frame in self.frames:
+                file.write("".join(f"{byte:02X}" for byte in frame) + "\n")
+        names.append(f"`{name}.hex`")
+        names.extend(f"- {i}: {comment}" for i, comment in enumerate(self.comments))
+        names.append("")
+        return name
+
+
+def pair(left, right, strong, weak):
+    pairs.append((left, right, strong, weak))
+
+
+def single_leaf(family, name, steps):
+    model = Model(family)
+    model.leaf(name, steps)
+    return model.save(name)
+
+
+def counter(places, up, down):
+    """Steps of a counter 0 to `places`."""
+    steps = []
+    for n in range(places):
+        steps += [(f"n{n}", up, f"n{n + 1}"), (f"n{n + 1}", down, f"n{n}")]
+    return steps
+
+
+# Buffers.
+
+def buffers():
+    family = Family("Buffers")
+
+    def chain(count):
+        model = Model(family)
+        cell = model.leaf("cell", [("empty", "in?", "full"), ("full", "out!", "empty")])
+        cells = []
+        for i in range(count):
+            line = cell
+            if i > 0:
+                line = model.relabel(line, **{"in": f"link{i}"})
+            if i < count - 1:
+                line = model.relabel(line, **{"out": f"link{i + 1}"})
+            cells.append(line)
+        model.restrict(model.compose(*cells), [f"link{i}" for i in range(1, count)])
+        return model.save(f"buffer_chain{count}")
+
+    def service(places):
+        return single_leaf(family, f"buffer_places{places}", counter(places, "in?", "out!"))
+
+    chains = {n: chain(n) for n in (2, 3, 4)}
+    places = {n: service(n) for n in (1, 2, 3, 4)}
+    for n in chains:
+        pair(chains[n], places[n], "different", "equal")
+    pair(chains[2], places[3], "different", "different")
+
+    model = Model(family)
+    cell = model.leaf("cell", [("empty", "in?", "full"), ("full", "out!", "empty")])
+    model.compose(cell, cell)
+    pair(model.save("buffer_bag2"), places[2], "equal", "equal")
+
+    lossy = [("empty", "in?", "full"), ("full", "out!", "empty"), ("full", TAU, "empty")]
+    pair(single_leaf(family, "buffer_lossy", lossy), places[1], "different", "different")
+    family.finish()
+
+
+# Milner's scheduler, source document 001, figure 2 and table 2.
+
+def scheduler():
+    family = Family("Milner's scheduler")
+
+    def cell_steps():
+        return [("waits", "get?", "chosen"), ("chosen", "start!", "started"),
+                ("started", TAU, "ended"), ("ended", "put!", "waits"),
+                ("started", "put!", "passed"), ("passed", TAU, "waits")]
+
+    def ring(count, tokens, name):
+        model = Model(family)
+        cell = model.leaf("cell", cell_steps())
+        first = [(f"t{t}", "token0!", f"t{t + 1}") for t in range(tokens)]
+        total = model.leaf("initialization", first)
+        for i in range(count):
+            line = model.relabel(cell, get=f"token{i}", start=f"task{i}", put=f"token{(i + 1) % count}")
+            total = model.compose(total, line)
+        model.restrict(total, [f"token{i}" for i in range(count)])
+        return model.save(name)
+
+    def order(sequence, name):
+        count = len(sequence)
+        steps = [(f"s{i}", f"task{task}!", f"s{(i + 1) % count}") for i, task in enumerate(sequence)]
+        return single_leaf(family, name, steps)
+
+    for count in (2, 3, 4, 5, 6):
+        system = ring(count, 1, f"scheduler{count}")
+        service = order(range(count), f"scheduler{count}_order")
+        pair(system, service, "different", "equal")
+    pair("scheduler3", order([0, 2, 1], "scheduler3_wrong_order"), "different", "different")
+    pair(ring(3, 2, "scheduler3_two_tokens"), "scheduler3_order", "different", "different")
+    family.finish()
+
+
+# Alternating bit protocol with channels that may lose a message.
+
+def alternating_bit():
+    family = Family("Alternating bit protocol")
+
+    def sender():
+        steps = []
+        for b in (0, 1):
+            steps += [(f"accept{b}", "accept?", f"send{b}"), (f"send{b}", f"send{b}!", f"wait{b}"),
+                      (f"wait{b}", f"ack{b}?", f"accept{1 - b}"), (f"wait{b}", f"ack{1 - b}?", f"wait{b}"),
+                      (f"wait{b}", TAU, f"send{b}")]
+        return steps
+
+    def medium(taken, given):
+        steps = []
+        for b in (0, 1):
+            steps += [("idle", f"{taken}{b}?", f"holds{b}"), (f"holds{b}", f"{given}{b}!", "idle"),
+                      (f"holds{b}", TAU, "idle")]
+        return steps
+
+    def receiver(tests_bit):
+        steps = []
+        for b in (0, 1):
+            repeated = f"reply{1 - b}" if tests_bit else f"deliver{1 - b}"
+            steps += [(f"expect{b}", f"trans{b}?", f"deliver{b}"), (f"expect{b}", f"trans{1 - b}?", repeated),
+                      (f"deliver{b}", "deliver!", f"reply{b}"), (f"reply{b}", f"reply{b}!", f"expect{1 - b}")]
+        return steps
+
+    def protocol(tests_bit, name):
+        model = Model(family)
+        parts = [model.leaf("sender", sender()), model.leaf("medium", medium("send", "trans")),
+                 model.leaf("receiver", receiver(tests_bit)), model.leaf("returns", medium("reply", "ack"))]
+        inner = [f"{word}{b}" for word in ("send", "trans", "reply", "ack") for b in (0, 1)]
+        model.restrict(model.compose(*parts), inner)
+        return model.save(name)
+
+    service = single_leaf(family, "abp_service", [("empty", "accept?", "full"), ("full", "deliver!", "empty")])
+    pair(protocol(True, "abp"), service, "different", "equal")
+    pair(protocol(False, "abp_bit_ignored"), service, "different", "different")
+    pair("abp", "abp_bit_ignored", "different", "different")
+    family.finish()
+
+
+# Dining philosophers, source document 004.
+
+def philosophers():
+    family = Family("Dining philosophers")
+
+    def table(count, ordered, name):
+        """In the ordered table the last philosopher takes the right fork first."""
+        model = Model(family)
+
+        def philosopher(one, two):
+            return [("start", "think!", "hungry"), ("hungry", f"take{one}!", "first"),
+                    ("first", f"take{two}!", "both"), ("both", "eat!", "done"),
+                    ("done", "dropleft!", "half"), ("half", "dropright!", "start")]
+
+        plain = model.leaf("philosopher", philosopher("left", "right"))
+        turned = model.leaf("turned philosopher", philosopher("right", "left")) if ordered else plain
+        fork = model.leaf("fork", [("free", "take?", "taken"), ("taken", "drop?", "free")])
+        parts = []
+        for i in range(1, count + 1):
+            left, right = i % count + 1, i
+            line = model.relabel(turned if i == count else plain, think=f"think{i}", takeleft=f"take{left}",
+                                 takeright=f"take{right}", eat=f"eat{i}", dropleft=f"drop{left}",
+                                 dropright=f"drop{right}")
+            parts += [line, model.relabel(fork, take=f"take{i}", drop=f"drop{i}")]
+        inner = [f"{word}{i}" for i in range(1, count + 1) for word in ("take", "drop")]
+        model.restrict(model.compose(*parts), inner)
+        return model.save(name)
+
+    def service():
+        """Two philosophers who share one permit."""
+        model = Model(family)
+        permit = model.leaf("permit", [("free", "take?", "taken"), ("taken", "drop?", "free")])
+        guest = model.leaf("guest", [("start", "think!", "hungry"), ("hungry", "take!", "served"),
+                                     ("served", "eat!", "done"), ("done", "drop!", "start")])
+        guests = [model.relabel(guest, think=f"think{i}", eat=f"eat{i}") for i in (1, 2)]
+        model.restrict(model.compose(*guests, permit), ["take", "drop"])
+        return model.save("philosophers2_permit")
+
+    plain, ordered = table(2, False, "philosophers2"), table(2, True, "philosophers2_ordered")
+    pair(plain, ordered, "different", "different")
+    permit = service()
+    pair(ordered, permit, "different", "equal")
+    pair(plain, permit, "different", "different")
+    pair(table(3, False, "philosophers3"), table(3, True, "philosophers3_ordered"), "different", "different")
+    family.finish()
+
+
+# Gas station, source document 004.
+
+def gas_station():
+    family = Family("Gas station")
+    both = (1, 2)
+
+    def operator(right):
+        steps = [("ready", f"prepay{i}?", "prepaid") for i in both]
+        steps += [("prepaid", "avlbl?", "starts"), ("starts", "act!", "ready"), ("prepaid", "occupied!", "ready")]
+        for i in both:
+            charged = f"charged{i}" if right else "charged"
+            steps += [("ready", f"charge{i}?", charged), (charged, f"change{i}!", "paid back")]
+        return steps + [("paid back", "wait?", "starts"), ("paid back", "none!", "ready")]
+
+    def queue():
+        return [("free", "avlbl!", "active"), ("active", "none?", "free"), ("active", "occupied?", "waiting"),
+                ("waiting", "wait!", "active")]
+
+    def pump(right):
+        steps = [("idle", "act?", "ready")]
+        for i in both:
+            running, done = (f"running{i}", f"done{i}") if right else ("running", "done")
+            steps += [("ready", f"start{i}?", running), (running, f"finish{i}?", done),
+                      (done, f"charge{i}!", "idle")]
+        return steps
+
+    def station(model, right):
+        parts = [model.leaf("operator", operator(right)), model.leaf("queue", queue()),
+                 model.leaf("pump", pump(right))]
+        inner = ["avlbl", "occupied", "none", "wait", "act", "charge1", "charge2"]
+        return model.restrict(model.compose(*parts), inner)
+
+    def open_station(right, name):
+        model = Model(family)
+        station(model, right)
+        return model.save(name)
+
+    def closed_station(right, name):
+        """With two customers, each of whom shows that he drives away with his change."""
+        model = Model(family)
+        system = station(model, right)
+        customer = model.leaf("customer", [
+            ("arrives", "prepay!", "paid"), ("paid", "start!", "fuelling"), ("fuelling", "finish!", "waits"),
+            ("waits", "change?", "leaves"), ("leaves", "away!", "arrives")])
+        customers = [model.relabel(customer, prepay=f"prepay{i}", start=f"start{i}", finish=f"finish{i}",
+                                   change=f"change{i}", away=f"away{i}") for i in both]
+        shared = [f"{word}{i}" for word in ("prepay", "start", "finish", "change") for i in both]
+        model.restrict(model.compose(system, *customers), shared)
+        return model.save(name)
+
+    pair(open_station(False, "gas_station"), open_station(True, "gas_station_right"), "different", "different")
+    service = single_leaf(family, "gas_service", [("any", "away1!", "any"), ("any", "away2!", "any")])
+    pair(closed_station(False, "gas_closed"), service, "different", "equal")
+    pair(closed_station(True, "gas_closed_right"), service, "different", "equal")
+    family.finish()
+
+
+# Parts of the LOTOS transport handler, source document 000, figure 2. All actions are outputs.
+
+def transport_handler():
+    family = Family("LOTOS transport handler")
+
+    def connect(end, inner=True):
+        steps = [("conn", "CInd!", "called"), ("calling", "CReq!", "requested"),
+                 ("requested", "CCnf!", end), ("requested", "DisInd!", "conn"),
+                 ("accepts", "CRes!", end), ("rejects", "DisReq!", "conn")]
+        if inner:
+            return [("conn", TAU, "calling"), ("called", TAU, "accepts"), ("called", TAU, "rejects")] + steps
+        short = [("conn", "CInd!", "called"), ("conn", "CReq!", "requested"), ("called", "CRes!", end),
+                 ("called", "DisReq!", "conn")]
+        return short + steps[2:4]
+
+    def data_until_end(end):
+        """Data_Phase disabled by Term_Phase."""
+        steps = [("data", TAU, "sends"), ("sends", "DatReq!", "data"), ("data", "DatInd!", "data")]
+        for alive in ("data", "sends"):
+            steps += [(alive, TAU, "ends"), (alive, "DisInd!", end)]
+        return steps + [("ends", "DisReq!", end)]
+
+    exits = ("exits", "exit!", "stop")
+    connection = single_leaf(family, "lotos_connect", connect("exits") + [exits])
+    without = single_leaf(family, "lotos_connect_without_i", connect("exits", inner=False) + [exits])
+    pair(connection, without, "different", "different")
+
+    flat = single_leaf(family, "lotos_data_term", data_until_end("exits") + [exits])
+    data = [("data", TAU, "sends"), ("sends", "DatReq!", "data"), ("data", "DatInd!", "data")]
+    term = [("term", "DisInd!", "exits"), ("ends", "DisReq!", "exits"), exits]
+
+    model = Model(family)
+    gate = [("open", "DatReq!", "open"), ("open", "DatInd!", "open"), ("open", "halt!", "shut"),
+            ("open", "DisInd!", "shut")]
+    gated = model.joint(model.leaf("data", data), model.leaf("gate", gate), ["DatReq", "DatInd"])
+    halted = model.joint(gated, model.leaf("term", [("term", "halt!", "ends")] + term), ["halt", "DisInd"])
+    model.hide(halted, ["halt"])
+    pair(model.save("lotos_data_term_gate"), flat, "different", "equal")
+
+    model = Model(family)
+    model.joint(model.leaf("data", data), model.leaf("term", [("term", TAU, "ends")] + term), [])
+    pair(model.save("lotos_data_beside_term"), flat, "different", "different")
+
+    whole = connect("connected") + [("connected", TAU, "data")] + data_until_end("over") + [("over", TAU, "conn")]
+    handler = single_leaf(family, "lotos_handler", whole)
+    short = single_leaf(family, "lotos_handler_short", connect("data") + data_until_end("conn"))
+    pair(handler, short, "different", "equal")
+
+    model = Model(family)
+    model.restrict(model.leaf("handler", whole), ["CInd"])
+    caller = [("conn", TAU, "calling"), ("calling", "CReq!", "requested"), ("requested", "CCnf!", "connected"),
+              ("requested", "DisInd!", "conn"), ("connected", TAU, "data")]
+    calling = single_leaf(family, "lotos_caller", caller + data_until_end("over") + [("over", TAU, "conn")])
+    pair(model.save("lotos_handler_no_calls"), calling, "equal", "equal")
+    family.finish()
+
+
+# Shuttle: host link, journal, drive and a supply that may drop.
+
+def shuttle():
+    family = Family("Shuttle")
+
+    def one_move(right, name):
+        """A one-move journal that is told of the drop, and the supply."""
+        model = Model(family)
+        lost = "pending, off" if right else "empty, off"
+        journal = model.leaf("journal", [
+            ("empty", "move?", "pending"), ("pending", "done!", "empty"),
+            ("empty", "drop?", "empty, off"), ("pending", "drop?", lost),
+            ("empty, off", "up?", "empty"), ("pending, off", "up?", "pending")],
+            states=["empty", "pending", "empty, off", "pending, off"])
+        supply = model.leaf("supply", [("on", "drop!", "off"), ("off", "up!", "on")])
+        model.restrict(model.compose(journal, supply), ["drop", "up"])
+        return model.save(name)
+
+    small = single_leaf(family, "shuttle_one_service", counter(1, "move?", "done!"))
+    pair(one_move(True, "shuttle_one"), small, "different", "equal")
+    pair(one_move(False, "shuttle_one_faulty"), small, "different", "different")
+
+    def journal(k, drop):
+        """n moves pending; in the states `new` the last of them is not flushed yet."""
+        flushed = [f"{n} pending" for n in range(k + 1)]
+        new = [None] + [f"{n} pending, last new" for n in range(1, k + 1)]
+        steps = []
+        for n in range(k):
+            steps += [(flushed[n], "log?", new[n + 1]), (new[n + 1], "flush!", flushed[n + 1]),
+                      (flushed[n + 1], "go!", flushed[n])]
+        steps += [(new[n], "go!", new[n - 1]) for n in range(2, k + 1)]
+        steps += [(state, "drop!", state) for state in flushed]
+        if drop == "survives":
+            steps += [(state, "drop!", state) for state in new[1:]]
+        if drop == "loses":
+            steps += [(new[n], "drop!", flushed[n - 1]) for n in range(1, k + 1)]
+        return steps
+
+    def station(k, drop, name):
+        """While the supply is off, nothing is flushed, handed to the drive or done."""
+        model = Model(family)
+        cell = model.leaf("one-place cell", [("empty", "in?", "full"), ("full", "out!", "empty")])
+        link = model.relabel(cell, **{"in": "move", "out": "log"})
+        book = model.leaf("journal", journal(k, drop))
+        drive = model.leaf("drive", [("idle", "go!", "busy"), ("busy", "done!", "idle")])
+        supply = model.leaf("supply", [("on", "drop!", "off"), ("off", "up!", "on"), ("on", "flush!", "on"),
+                                       ("on", "go!", "on"), ("on", "done!", "on")])
+        driven = model.joint(book, drive, ["go"])
+        powered = model.joint(driven, supply, ["drop", "flush", "go", "done"])
+        inner = model.hide(powered, ["drop", "up", "flush", "go"])
+        model.restrict(model.compose(link, inner), ["log"])
+        return model.save(name)
+
+    for k in (1, 2, 3, 5, 7):
+        service = single_leaf(family, f"shuttle{k}_service", counter(k + 2, "move?", "done!"))
+        pair(station(k, "survives", f"shuttle{k}"), service, "different", "equal")
+        pair(station(k, "waits", f"shuttle{k}_flushed_first"), service, "different", "equal")
+        pair(station(k, "loses", f"shuttle{k}_faulty"), service, "different", "different")
+    pair("shuttle1", "shuttle1_flushed_first", "different", "equal")
+    pair("shuttle1", "shuttle1_faulty", "different", "different")
+    pair("shuttle2", "shuttle1_service", "different", "different")
+    family.finish()
+
+
+def oracle(*words):
+    done = subprocess.run(["nice", ORACLE, *map(str, words)], capture_output=True, text=True)
+    return done.stdout.strip() or done.stderr.strip()
+
+
+def answer(left, right, mode):
+    """Verdict and rounds by explicit pairs, and nodes; `-` where the list fits no table."""
+    files = [os.path.join(HERE, name + ".hex") for name in (left, right)]
+    found = oracle("verdict", *files, mode, LIMIT).split()
+    counted = oracle("compare", *files, mode, LIMIT, LARGEST_TABLE).split()
+    if counted == ["refused", "8", "2", "0"]:
+        return found + ["-"]
+    assert counted[:2] == found, (left, right, mode, found, counted)
+    return counted
+
+
+def vectors(left, right, mode, found):
+    """The pair as vectors lines, with the program's table and with the largest one."""
+    texts = []
+    for name in (left, right):
+        with open(os.path.join(HERE, name + ".hex")) as file:
+            texts.append(file.read().replace("\n", "/"))
+    for length in (PROGRAM_TABLE, LARGEST_TABLE):
+        fits = found[2] != "-" and int(found[2]) <= length - 2
+        result = " ".join(found) if fits else "refused 8 2 0"
+        name = f"{left} {right} {'weak' if mode else 'strong'} {length}"
+        yield "\t".join([name, *texts, str(mode), str(LIMIT), str(length), result])
+
+
+def expected():
+    rows = ["# left\tright\tmode\tverdict\trounds\tnodes"]
+    lines = ["# name\tleft\tright\tmode\tlimit\tL\tanswer"]
+    for left, right, strong, weak in pairs:
+        for mode, verdict in ((0, strong), (1, weak)):
+            found = answer(left, right, mode)
+            print(left, right, mode, *found, flush=True)
+            if found[0] != verdict:
+                sys.exit(f"expected {verdict}")
+            rows.append("\t".join([left + ".hex", right + ".hex", str(mode), *found]))
+            lines.extend(vectors(left, right, mode, found))
+    write("EXPECTED.tsv", rows)
+    write("vectors.tsv", lines)
+
+
+def write(name, lines):
+    with open(os.path.join(HERE, name), "w") as file:
+        file.write("\n".join(lines) + "\n")
+
+
+def main():
+    for make in (buffers, scheduler, alternating_bit, philosophers, gas_station, transport_handler, shuttle):
+        make()
+    title = ["# Channels, lines and states of the models", "", "Written by make.py. States are numbered from 0."]
+    write("NAMES.md", title + names)
+    if "--no-answers" not in sys.argv:
+        expected()
+
+
+if __name__ == "__main__":
+    main()

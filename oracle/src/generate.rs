@@ -1,0 +1,362 @@
+//! Generated models, malformed texts and comparisons.
+
+use crate::answer::Answer;
+use crate::model::{width, MAX_BITS, MAX_USES};
+use crate::random::Random;
+use crate::vectors::Case;
+
+type Frame = Vec<u8>;
+
+const LEAF: u8 = 1;
+const COMPOSE: u8 = 2;
+const RESTRICT: u8 = 3;
+const RELABEL: u8 = 4;
+const HIDE: u8 = 5;
+const JOINT: u8 = 6;
+
+pub const LIMIT: u64 = 1_000_000;
+pub const LENGTH: usize = 1 << 16;
+
+/// Frames to text.
+pub fn text(frames: &[Frame]) -> Vec<u8> {
+    let line = |frame: &Frame| frame.iter().map(|b| format!("{b:02X}")).collect::<String>() + "\n";
+    frames.iter().map(line).collect::<String>().into_bytes()
+}
+
+/// An accepted model of at most `budget` bits; some of its lines may be unused.
+pub fn model(random: &mut Random, budget: u32) -> Vec<Frame> {
+    let palette: Vec<u8> = (0..1 + random.below(3)).map(|_| channel(random)).collect();
+    let mut builder = Builder { random, palette, budget, frames: vec![], bits: vec![] };
+    let lines = 1 + builder.random.below(8);
+    for _ in 0..lines {
+        builder.add_line();
+    }
+    builder.frames
+}
+
+/// Mostly the first channels, at times any.
+fn channel(random: &mut Random) -> u8 {
+    let any = 1 + random.below(31) as u8;
+    random.pick(&[1, 2, 3, 1, 2, 3, 31, any])
+}
+
+struct Builder<'a> {
+    random: &'a mut Random,
+    palette: Vec<u8>,
+    budget: u32,
+    frames: Vec<Frame>,
+    bits: Vec<u32>,
+}
+
+impl Builder<'_> {
+    fn add_line(&mut self) {
+        let kind = self.random.pick(&[LEAF, LEAF, COMPOSE, COMPOSE, RESTRICT, RELABEL, HIDE, JOINT, JOINT]);
+        let (body, bits) = match kind {
+            _ if self.frames.is_empty() => self.leaf(),
+            COMPOSE | JOINT => match self.two_operands() {
+                Some((i, j)) => self.binary(kind, i, j),
+                None => self.leaf(),
+            },
+            RESTRICT | HIDE | RELABEL => self.unary(kind),
+            _ => self.leaf(),
+        };
+        let number = self.frames.len() as u8;
+        self.frames.push([vec![number], body].concat());
+        self.bits.push(bits);
+    }
+
+    fn leaf(&mut self) -> (Frame, u32) {
+        let any = 1 + self.random.below(64) as u8;
+        let wide = if self.random.once_in(16) { any } else { 2 };
+        let states: u8 = self.random.pick(&[1, 1, 2, 2, 3, 3, 4, 5, wide]);
+        let mut body = vec![LEAF, states];
+        if self.random.once_in(4) {
+            body.extend(self.chain(states));
+        }
+        for _ in 0..self.random.below(7) {
+            body.extend(self.triple(states));
+        }
+        (body, width(states))
+    }
+
+    /// A step from each state to the next one, which makes differences show late.
+    fn chain(&mut self, states: u8) -> Vec<u8> {
+        (1..states).flat_map(|to| [to - 1, self.triple(states)[1], to]).collect()
+    }
+
+    /// About one triple in three is a τ step.
+    fn triple(&mut self, states: u8) -> [u8; 3] {
+        let any = self.random.below(states.into()) as u8;
+        let from = self.random.pick(&[0, any, any]);
+        let to = self.random.below(states.into()) as u8;
+        let channel = self.random.pick(&self.palette);
+        let action = self.random.pick(&[0, 2 * channel, 2 * channel + 1]);
+        [from, action, to]
+    }
+
+    /// Mostly the newest line, so that operators nest.
+    fn operand(&mut self) -> usize {
+        let newest = self.frames.len() - 1;
+        let any = self.random.below(self.frames.len());
+        self.random.pick(&[newest, newest, any])
+    }
+
+    fn two_operands(&mut self) -> Option<(usize, usize)> {
+        let (i, j) = (self.operand(), self.random.below(self.frames.len()));
+        let (i, j) = if self.random.once_in(2) { (i, j) } else { (j, i) };
+        (self.bits[i] + self.bits[j] <= self.budget).then_some((i, j))
+    }
+
+    fn binary(&mut self, kind: u8, i: usize, j: usize) -> (Frame, u32) {
+        let list = if kind == JOINT { self.channel_list() } else { vec![] };
+        ([vec![kind, i as u8, j as u8], list].concat(), self.bits[i] + self.bits[j])
+    }
+
+    fn unary(&mut self, kind: u8) -> (Frame, u32) {
+        let operand = self.operand();
+        let rest = match kind {
+            RELABEL => vec![self.some_channel(), self.some_channel()],
+            _ => self.channel_list(),
+        };
+        ([vec![kind, operand as u8], rest].concat(), self.bits[operand])
+    }
+
+    fn some_channel(&mut self) -> u8 {
+        let fresh = channel(self.random);
+        let known = self.random.pick(&self.palette);
+        self.random.pick(&[known, known, fresh])
+    }
+
+    fn channel_list(&mut self) -> Vec<u8> {
+        (0..self.random.below(4)).map(|_| self.some_channel()).collect()
+    }
+}
+
+/// A model close to the given one, often equal to it in one mode or both.
+pub fn variant(random: &mut Random, frames: &[Frame]) -> Vec<Frame> {
+    let mut changed = frames.to_vec();
+    let newest = frames.len() as u8 - 1;
+    let next = frames.len() as u8;
+    let place = random.below(frames.len());
+    match random.below(9) {
+        0 => changed.push(vec![next, RESTRICT, newest]),
+        1 => changed.push(vec![next, RELABEL, newest, 1, 1]),
+        2 => changed.push(vec![next, HIDE, newest]),
+        3 => swap_operands(&mut changed[place]),
+        4 => shuffle_triples(random, &mut changed[place]),
+        5 => drop_triple(&mut changed[place]),
+        6 | 7 => redirect_triple(random, &mut changed[place]),
+        _ => {}
+    }
+    changed
+}
+
+fn swap_operands(frame: &mut Frame) {
+    if matches!(frame[1], COMPOSE | JOINT) {
+        frame.swap(2, 3);
+    }
+}
+
+fn shuffle_triples(random: &mut Random, frame: &mut Frame) {
+    if frame[1] == LEAF {
+        let mut triples: Vec<_> = frame[3..].chunks(3).map(<[u8]>::to_vec).collect();
+        random.shuffle(&mut triples);
+        frame.truncate(3);
+        frame.extend(triples.concat());
+    }
+}
+
+fn drop_triple(frame: &mut Frame) {
+    if frame[1] == LEAF && frame.len() > 3 {
+        frame.truncate(frame.len() - 3);
+    }
+}
+
+/// Another target state in one triple.
+fn redirect_triple(random: &mut Random, frame: &mut Frame) {
+    if frame[1] == LEAF && frame.len() > 3 {
+        let triple = random.below((frame.len() - 3) / 3);
+        frame[3 * triple + 5] = random.below(frame[2].into()) as u8;
+    }
+}
+
+/// Two accepted models, mostly close to each other.
+pub fn pair(random: &mut Random, budget: u32) -> (Vec<Frame>, Vec<Frame>) {
+    let one = model(random, budget);
+    let changes = random.below(4);
+    if changes == 0 {
+        return (one, model(random, budget));
+    }
+    let other = (0..changes).fold(one.clone(), |frames, _| variant(random, &frames));
+    if random.once_in(2) {
+        (one, other)
+    } else {
+        (other, one)
+    }
+}
+
+/// A pair of accepted models with mode, limit and table length.
+pub fn sound_case(random: &mut Random) -> Case {
+    let budget = random.pick(&[2, 3, 4, 5, 6]);
+    let (left, right) = pair(random, budget);
+    let mut case = Case {
+        left: text(&left),
+        right: text(&right),
+        mode: random.below(2) as u64,
+        limit: LIMIT,
+        length: LENGTH,
+    };
+    if random.once_in(3) {
+        tighten(random, &mut case);
+    }
+    case
+}
+
+/// Moves limit or table length to an edge of the answer.
+fn tighten(random: &mut Random, case: &mut Case) {
+    let (Answer::Equal { rounds, nodes } | Answer::Different { rounds, nodes }) = case.run().answer else {
+        return;
+    };
+    match random.below(6) {
+        0 => case.length = nodes + 2,
+        1 => case.length = (nodes + 1).max(2),
+        2 => case.limit = rounds,
+        3 => case.limit = rounds - 1,
+        4 => case.limit = 0,
+        _ => case.length = 2 + random.below(nodes + 2),
+    }
+}
+
+/// A case that refusal 7 is due of, whatever the texts.
+fn bad_call(random: &mut Random) -> Case {
+    let mut case = sound_case(random);
+    if random.once_in(3) {
+        case.left = malformed(random);
+    }
+    match random.below(3) {
+        0 => case.mode = 2 + random.draw() % 300,
+        1 => case.length = random.below(2),
+        _ => case.length = (1 << 20) + 1 + random.below(1000),
+    }
+    case
+}
+
+/// A comparison of any sort.
+pub fn case(random: &mut Random) -> Case {
+    match random.below(40) {
+        0 => bad_call(random),
+        1..=9 => {
+            let mut case = sound_case(random);
+            match random.below(3) {
+                0 => case.left = malformed(random),
+                1 => case.right = malformed(random),
+                _ => (case.left, case.right) = (malformed(random), malformed(random)),
+            }
+            case
+        }
+        _ => sound_case(random),
+    }
+}
+
+/// A text made from an accepted one so that a refusal 1 to 6 is likely due, or of random bytes.
+pub fn malformed(random: &mut Random) -> Vec<u8> {
+    let frames = model(random, 6);
+    match random.below(12) {
+        0 | 1 => stray_bytes(random, text(&frames)),
+        2 => cut(random, text(&frames)),
+        3 => text(&resized(random, frames)),
+        4 => text(&misnumbered(random, frames)),
+        5 => text(&many_lines(random)),
+        6 => text(&wrong_kind(random, frames)),
+        7 => text(&wrong_length(random, frames)),
+        8 | 9 => text(&changed_byte(random, frames)),
+        10 => text(&too_large(random)),
+        _ => random_bytes(random),
+    }
+}
+
+fn stray_bytes(random: &mut Random, mut bytes: Vec<u8>) -> Vec<u8> {
+    let place = random.below(bytes.len());
+    let any = random.draw() as u8;
+    bytes[place] = random.pick(&[b'G', b'a', b'f', b' ', b'\r', b'/', b':', b'@', b'`', 0, 0xFF, any]);
+    bytes
+}
+
+fn cut(random: &mut Random, mut bytes: Vec<u8>) -> Vec<u8> {
+    match random.below(3) {
+        0 => bytes.truncate(random.below(bytes.len())),
+        1 => drop(bytes.remove(random.below(bytes.len()))),
+        _ => bytes.truncate(bytes.len() - 1),
+    }
+    bytes
+}
+
+/// One frame under 2 or over 255 bytes, or just within.
+fn resized(random: &mut Random, mut frames: Vec<Frame>) -> Vec<Frame> {
+    let place = random.below(frames.len());
+    let size = random.pick(&[0, 1, 255, 256, 300]);
+    let filler = random.pick(&[0, 1, 2]);
+    frames[place].resize(size, filler);
+    frames
+}
+
+fn misnumbered(random: &mut Random, mut frames: Vec<Frame>) -> Vec<Frame> {
+    let place = random.below(frames.len());
+    frames[place][0] = random.pick(&[0, 1, 2, 64, 255]);
+    frames
+}
+
+/// 64 lines or more.
+fn many_lines(random: &mut Random) -> Vec<Frame> {
+    let lines = 64 + random.below(3) as u8;
+    (0..lines).map(|number| vec![number, LEAF, 1]).collect()
+}
+
+fn wrong_kind(random: &mut Random, mut frames: Vec<Frame>) -> Vec<Frame> {
+    let place = random.below(frames.len());
+    frames[place][1] = random.pick(&[0, 1, 2, 3, 4, 5, 6, 7, 8, 9, 255]);
+    frames
+}
+
+fn wrong_length(random: &mut Random, mut frames: Vec<Frame>) -> Vec<Frame> {
+    let place = random.below(frames.len());
+    if random.once_in(2) {
+        frames[place].pop();
+    } else {
+        frames[place].push(1);
+    }
+    frames
+}
+
+/// One byte of a body becomes a value at the edge of some range.
+fn changed_byte(random: &mut Random, mut frames: Vec<Frame>) -> Vec<Frame> {
+    let place = random.below(frames.len());
+    let index = random.below(frames[place].len() - 2) + 2;
+    frames[place][index] = random.pick(&[0, 1, 2, 5, 31, 32, 63, 64, 65, 255]);
+    frames
+}
+
+/// Doubles a leaf until the bits or the uses are at the end of what is allowed or above it.
+fn too_large(random: &mut Random) -> Vec<Frame> {
+    let states: u8 = random.pick(&[1, 1, 2, 3, 17, 64]);
+    let mut frames = vec![vec![0, LEAF, states, 0, 2, 0]];
+    let mut uses = 1;
+    while uses <= MAX_USES && uses * width(states) <= MAX_BITS {
+        let newest = frames.len() as u8 - 1;
+        let (other, more) = if random.once_in(4) { (0, 1) } else { (newest, uses) };
+        frames.push(vec![newest + 1, random.pick(&[COMPOSE, JOINT]), newest, other]);
+        uses += more;
+    }
+    frames
+}
+
+fn random_bytes(random: &mut Random) -> Vec<u8> {
+    let size = random.below(40);
+    let any: Vec<u8> = (0..size).map(|_| random.draw() as u8).collect();
+    let close: Vec<u8> = (0..size).map(|_| random.pick(b"0000111223456789ABCDEF\n\n")).collect();
+    if random.once_in(2) {
+        any
+    } else {
+        close
+    }
+}

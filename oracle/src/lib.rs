@@ -1,0 +1,18 @@
+//! An explicit-state program for comparing models, written from document 01 alone.
+//!
+//! The verdict comes from an iteration over explicit pairs of states (`bisim`).
+//! The node count comes from evaluating the list of functions (`list`).
+
+pub mod answer;
+pub mod bisim;
+pub mod bits;
+pub mod diagram;
+pub mod generate;
+pub mod list;
+pub mod model;
+pub mod random;
+pub mod reader;
+pub mod steps;
+pub mod vectors;
+
+pub use answer::{compare, largest, steps, Answer};

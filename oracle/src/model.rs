@@ -1,0 +1,109 @@
+//! Accepted models.
+
+pub const TAU: u8 = 0;
+pub const MAX_LINES: usize = 64;
+pub const MAX_BITS: u32 = 20;
+pub const MAX_USES: u32 = 64;
+
+/// A set of channels 1 to 31, one bit a channel.
+#[derive(Clone, Copy, Debug, Default, PartialEq, Eq)]
+pub struct Channels(pub u32);
+
+impl Channels {
+    pub fn single(channel: u8) -> Self {
+        Channels(1 << channel)
+    }
+
+    /// τ lies on no channel: it would be channel 0, which no list holds.
+    pub fn has_action(self, action: u8) -> bool {
+        self.0 >> (action / 2) & 1 == 1
+    }
+}
+
+impl FromIterator<u8> for Channels {
+    fn from_iter<I: IntoIterator<Item = u8>>(channels: I) -> Self {
+        Channels(channels.into_iter().fold(0, |set, c| set | 1 << c))
+    }
+}
+
+#[derive(Clone, Copy, Debug, PartialEq, Eq)]
+pub struct Triple {
+    pub from: u8,
+    pub action: u8,
+    pub to: u8,
+}
+
+/// A line's process; operands are numbers of earlier lines.
+#[derive(Clone, Debug, PartialEq, Eq)]
+pub enum Process {
+    Leaf { states: u8, triples: Vec<Triple> },
+    Compose(usize, usize),
+    Restrict(usize, Channels),
+    Relabel { operand: usize, old: u8, new: u8 },
+    Hide(usize, Channels),
+    Joint(usize, usize, Channels),
+}
+
+impl Process {
+    pub fn operands(&self) -> Vec<usize> {
+        match *self {
+            Process::Leaf { .. } => vec![],
+            Process::Restrict(i, _) | Process::Hide(i, _) => vec![i],
+            Process::Relabel { operand, .. } => vec![operand],
+            Process::Compose(i, j) | Process::Joint(i, j, _) => vec![i, j],
+        }
+    }
+}
+
+/// Number of bits for the states 0 to `states` − 1.
+pub fn width(states: u8) -> u32 {
+    u8::BITS - (states - 1).leading_zeros()
+}
+
+#[derive(Clone, Debug)]
+pub struct Line {
+    pub process: Process,
+    /// State counts of the leaf uses, first leaf first.
+    pub leaves: Vec<u8>,
+}
+
+impl Line {
+    pub fn bits(&self) -> u32 {
+        self.leaves.iter().map(|&n| width(n)).sum()
+    }
+
+    pub fn uses(&self) -> u32 {
+        self.leaves.len() as u32
+    }
+
+    /// Number of combinations of leaf states; at most 2^20 in an accepted model.
+    pub fn states(&self) -> u64 {
+        self.leaves.iter().map(|&n| u64::from(n)).product()
+    }
+}
+
+/// One or more lines; the last one's process is the model.
+#[derive(Clone, Debug, Default)]
+pub struct Model {
+    pub lines: Vec<Line>,
+}
+
+impl Model {
+    pub fn last(&self) -> &Line {
+        self.lines.last().expect("an accepted model has a line")
+    }
+
+    /// For each line, whether the last line uses it, directly or not.
+    pub fn used(&self) -> Vec<bool> {
+        let mut used = vec![false; self.lines.len()];
+        *used.last_mut().expect("an accepted model has a line") = true;
+        for number in (0..self.lines.len()).rev() {
+            if used[number] {
+                for operand in self.lines[number].process.operands() {
+                    used[operand] = true;
+                }
+            }
+        }
+        used
+    }
+}

@@ -1,0 +1,89 @@
+//! Files of expected answers: name, left, right, mode, limit, L and answer, parted by tabs.
+
+use std::fmt::Write;
+
+use crate::answer::{compare_checked, Answer, Checked};
+
+/// The arguments of one comparison.
+#[derive(Clone, Debug, PartialEq, Eq)]
+pub struct Case {
+    pub left: Vec<u8>,
+    pub right: Vec<u8>,
+    pub mode: u64,
+    pub limit: u64,
+    pub length: usize,
+}
+
+impl Case {
+    pub fn run(&self) -> Checked {
+        let lens = (self.length, self.length, self.length);
+        compare_checked(&self.left, &self.right, self.mode, self.limit, lens)
+    }
+
+    /// The vectors line with this answer.
+    pub fn line(&self, name: &str, answer: Answer) -> String {
+        let (left, right) = (escape(&self.left), escape(&self.right));
+        let Case { mode, limit, length, .. } = self;
+        format!("{name}\t{left}\t{right}\t{mode}\t{limit}\t{length}\t{answer}")
+    }
+}
+
+/// One line of a file of vectors.
+#[derive(Clone, Debug, PartialEq, Eq)]
+pub struct Vector {
+    pub name: String,
+    pub case: Case,
+    pub expected: String,
+}
+
+/// The vector of a line; none if the line is malformed.
+pub fn parse(line: &str) -> Option<Vector> {
+    let fields: Vec<&str> = line.split('\t').collect();
+    let &[name, left, right, mode, limit, length, expected] = fields.as_slice() else {
+        return None;
+    };
+    let case = Case {
+        left: unescape(left)?,
+        right: unescape(right)?,
+        mode: mode.parse().ok()?,
+        limit: limit.parse().ok()?,
+        length: length.parse().ok()?,
+    };
+    Some(Vector { name: name.to_string(), case, expected: expected.to_string() })
+}
+
+/// Whether a line of a file holds a vector: neither empty nor a comment.
+pub fn is_vector(line: &str) -> bool {
+    !line.is_empty() && !line.starts_with('#')
+}
+
+/// `/` stands for byte 0A and `\xHH` for byte HH; none if an escape is malformed.
+pub fn unescape(text: &str) -> Option<Vec<u8>> {
+    let mut bytes = Vec::new();
+    let mut rest = text.as_bytes();
+    while let Some((&byte, tail)) = rest.split_first() {
+        rest = tail;
+        match byte {
+            b'/' => bytes.push(b'\n'),
+            b'\\' => {
+                let digits = std::str::from_utf8(rest.get(1..3)?).ok()?;
+                bytes.push(u8::from_str_radix(digits, 16).ok()?);
+                rest = &rest[3..];
+            }
+            _ => bytes.push(byte),
+        }
+    }
+    Some(bytes)
+}
+
+pub fn escape(bytes: &[u8]) -> String {
+    let mut text = String::new();
+    for &byte in bytes {
+        match byte {
+            b'\n' => text.push('/'),
+            b'0'..=b'9' | b'A'..=b'F' => text.push(byte.into()),
+            _ => write!(text, "\\x{byte:02X}").expect("writing to a string"),
+        }
+    }
+    text
+}

@@ -1,0 +1,179 @@
+//! Rows P1 to P10 of document 01 and single points of its text.
+
+use oracle::bisim::Mode;
+use oracle::model::Model;
+use oracle::reader::{read, Refusal};
+use oracle::steps::Step;
+use oracle::{compare, largest, steps, Answer};
+
+const STRONG: u64 = 0;
+const WEAK: u64 = 1;
+const LIMIT: u64 = 1_000_000;
+
+/// `/` ends a line, and so does the end of a row.
+fn text(row: &str) -> Vec<u8> {
+    format!("{row}/").replace('/', "\n").into_bytes()
+}
+
+fn model(row: &str) -> Model {
+    read(&text(row)).expect("the row is accepted")
+}
+
+fn answer_at(left: &str, right: &str, mode: u64, limit: u64, length: usize) -> String {
+    compare(&text(left), &text(right), mode, limit, (length, length, length)).to_string()
+}
+
+fn answer(left: &str, right: &str, mode: u64) -> String {
+    answer_at(left, right, mode, LIMIT, 4096)
+}
+
+fn derived(row: &str) -> Vec<(u32, u8, u32)> {
+    let triple = |s: Step| (s.from, s.action, s.to);
+    steps(&model(row)).expect("small").into_iter().map(triple).collect()
+}
+
+const P2: (&str, &str) = ("000102000201", "000103000001010202");
+const P4: (&str, &str) = ("000103000201010402010602", "000104000201000202010403020603");
+const P6: (&str, &str) = ("000104000201000202020403", "000103000201010402");
+const P7: (&str, &str) = ("000102000201/010102000301/02020001/03030201", "000102000001");
+const P8: (&str, &str) = ("000102000201/01050001", "000102000001");
+const P9: (&str, &str) = ("000102000201/0106000001", "000102000201");
+const P10: (&str, &str) = ("000102000201/0104000102", "000102000401");
+
+#[test]
+fn p1_one_state() {
+    assert_eq!(answer("000101", "000101", STRONG), "equal 1 0");
+    assert_eq!(answer_at("000101", "000101", STRONG, LIMIT, 2), "equal 1 0");
+    assert_eq!(answer("000101", "000101", WEAK), "equal 1 12");
+    assert_eq!(answer_at("000101", "000101", WEAK, LIMIT, 14), "equal 1 12");
+    assert_eq!(answer_at("000101", "000101", WEAK, LIMIT, 13), "refused 8 2 0");
+}
+
+#[test]
+fn p2_and_p3_inner_step_first() {
+    assert_eq!(answer(P2.0, P2.1, STRONG), "different 1 216");
+    assert_eq!(answer(P2.1, P2.0, STRONG), "different 1 231");
+    assert_eq!(answer(P2.0, P2.1, WEAK), "equal 3 866");
+    let pairs = largest(&model(P2.0), &model(P2.1), Mode::Weak);
+    assert_eq!(pairs, Some(vec![(0, 0), (0, 1), (1, 2)]));
+}
+
+#[test]
+fn p4_and_p5_choice_after_or_before() {
+    assert_eq!(answer(P4.0, P4.1, STRONG), "different 2 749");
+    assert_eq!(answer(P4.0, P4.1, WEAK), "different 2 1590");
+    assert_eq!(answer_at(P4.0, P4.1, STRONG, 1, 4096), "refused 9 2 0");
+    assert_eq!(answer_at(P4.0, P4.1, STRONG, 2, 4096), "different 2 749");
+}
+
+#[test]
+fn p6_challenges_of_both_sides() {
+    assert_eq!(answer(P6.0, P6.1, STRONG), "different 2 676");
+    assert_eq!(answer(P6.0, P6.1, WEAK), "different 2 1431");
+}
+
+#[test]
+fn p7_to_p10_operators() {
+    assert_eq!(answer(P7.0, P7.1, STRONG), "equal 2 292");
+    assert_eq!(answer(P7.0, P7.1, WEAK), "equal 1 389");
+    assert_eq!(answer(P8.0, P8.1, STRONG), "equal 2 194");
+    assert_eq!(answer(P8.0, P8.1, WEAK), "equal 1 172");
+    assert_eq!(answer(P9.0, P9.1, STRONG), "equal 2 259");
+    assert_eq!(answer(P9.0, P9.1, WEAK), "equal 2 620");
+    assert_eq!(answer(P10.0, P10.1, STRONG), "equal 2 183");
+    assert_eq!(answer(P10.0, P10.1, WEAK), "equal 2 346");
+}
+
+#[test]
+fn limit_0_gives_no_verdict() {
+    assert_eq!(answer_at("000101", "000101", STRONG, 0, 4096), "refused 9 2 0");
+    assert_eq!(answer_at(P2.0, P2.1, STRONG, 0, 2), "refused 8 2 0");
+}
+
+#[test]
+fn refusal_7_comes_first() {
+    let seven = Answer::Refused { number: 7, side: 2, line: 0 };
+    assert_eq!(compare(b"", b"", 2, 0, (4, 4, 4)), seven);
+    assert_eq!(compare(b"", b"", 0, 0, (4, 5, 4)), seven);
+    assert_eq!(compare(b"", b"", 0, 0, (4, 4, 5)), seven);
+    assert_eq!(compare(b"", b"", 0, 0, (1, 1, 1)), seven);
+    assert_eq!(compare(b"", b"", 0, 0, (1 << 21, 1 << 21, 1 << 21)), seven);
+}
+
+#[test]
+fn left_text_comes_before_right_text() {
+    let lens = (4, 4, 4);
+    assert_eq!(compare(b"", b"0", 0, 0, lens).to_string(), "refused 1 0 0");
+    assert_eq!(compare(b"000101\n", b"0", 0, 0, lens).to_string(), "refused 1 1 0");
+}
+
+#[test]
+fn each_refusal_of_a_text() {
+    let refused = |text: &[u8]| read(text).map(|_| ()).map_err(|Refusal { number, line }| (number, line));
+    assert_eq!(refused(b""), Err((1, 0)));
+    assert_eq!(refused(b"000101"), Err((1, 0)));
+    assert_eq!(refused(b"00010a\n"), Err((1, 0)));
+    assert_eq!(refused(b"\n"), Err((2, 0)));
+    assert_eq!(refused(b"000101\n\n"), Err((2, 1)));
+    assert_eq!(refused(b"010101\n"), Err((3, 0)));
+    assert_eq!(refused(b"0007\n"), Err((4, 0)));
+    assert_eq!(refused(b"00010200\n"), Err((4, 0)));
+    assert_eq!(refused(b"000102000101\n"), Err((5, 0)));
+    assert_eq!(refused(b"000100\n"), Err((5, 0)));
+    assert_eq!(refused(b"000140\n01020000\n02020101\n"), Err((6, 2)));
+    assert_eq!(refused(b"000101\n"), Ok(()));
+}
+
+#[test]
+fn line_64_is_refused() {
+    let lines = |count: u8| (0..count).map(|n| format!("{n:02X}0101\n")).collect::<String>();
+    assert!(read(lines(64).as_bytes()).is_ok());
+    assert_eq!(read(lines(65).as_bytes()).unwrap_err(), Refusal { number: 3, line: 64 });
+    let bad = lines(64) + "\n";
+    assert_eq!(read(bad.as_bytes()).unwrap_err(), Refusal { number: 2, line: 64 });
+}
+
+#[test]
+fn two_uses_are_two_instances() {
+    let expected = vec![(0, 2, 1), (0, 2, 2), (1, 2, 3), (2, 2, 3)];
+    assert_eq!(derived("000102000201/01020000"), expected);
+}
+
+#[test]
+fn tau_does_not_meet_tau() {
+    let expected = vec![(0, 0, 1), (0, 0, 2), (1, 0, 3), (2, 0, 3)];
+    assert_eq!(derived("000102000001/01020000"), expected);
+}
+
+#[test]
+fn unused_codes_are_no_states() {
+    let expected = vec![(0, 2, 1), (0, 2, 4), (1, 2, 5), (2, 2, 6), (4, 2, 5), (8, 2, 9)];
+    assert_eq!(derived("000103000201/01020000"), expected);
+}
+
+#[test]
+fn joint_takes_the_same_action() {
+    assert_eq!(derived("000102000201/010102000301/0206000101"), vec![]);
+    assert_eq!(derived("000102000201/0106000001"), vec![(0, 2, 3)]);
+}
+
+#[test]
+fn relabel_keeps_direction_and_steps_on_the_new_channel() {
+    assert_eq!(derived("000102000201000301000401/0104000102"), vec![(0, 4, 1), (0, 5, 1)]);
+}
+
+#[test]
+fn composition_does_not_distribute_over_choice() {
+    // a | (b + c) against (a | b) + (a | c).
+    let left = "000102000201/010103000401000602/02020001";
+    let right = "000108000201000402000203000604010402030604020205040205";
+    assert!(answer_at(left, right, STRONG, LIMIT, 65536).starts_with("different"));
+    assert!(answer_at(left, right, WEAK, LIMIT, 65536).starts_with("different"));
+}
+
+#[test]
+fn large_models_are_not_enumerated() {
+    let row = "000140/01020000/02020100";
+    assert_eq!(steps(&model(row)), None);
+    assert!(answer_at(row, row, STRONG, LIMIT, 1 << 20).starts_with("equal 1 "));
+}
