@@ -9,3 +9,4 @@ pub mod Start
 pub mod Work
 pub mod Lent
 pub mod Single
+pub mod Lookup

@@ -1,7 +1,10 @@
 // Node tables: three slices of one length, whose first `used` entries are in use. Entries 0 and 1
 // are the constants; the children of a node stand before it and have larger levels.
+pub mod lookup;
+
 ghost use mathlib.Core.Path.{_≡_};
-ghost use Prim.Native.Nat.{ℕ, _+_, _*_, _≤_, _<_, min};
+ghost use mathlib.Core.Bool.{cond};
+ghost use Prim.Native.Nat.{ℕ, _+_, _*_, _≤_, _<_, min, max};
 ghost use lib.ListN.{length, getD, set};
 ghost use Rattle.nodes.specs.Fun.{both, either, negated, fixed, same};
 ghost use Rattle.nodes.specs.Operate.{operation, lastOperation, Operands, SettlesBy, Settles, cofactorOf, Splits, Recalled, Stores, Finishes, Helped, Operates};
@@ -294,6 +297,12 @@ fn smaller(a: u8, b: u8) -> u8
     ensures { λ r. ⌜ r ≡ min a b ⌝ }
 {
     if a < b { a } else { b }
+}
+
+fn larger(a: u8, b: u8) -> u8
+    ensures { λ r. ⌜ r ≡ max a b ⌝ }
+{
+    if a < b { b } else { a }
 }
 
 // The entry of f with level v, at most f's own, fixed to the bit that `child` is the children of.
@@ -708,6 +717,13 @@ pub fn constant(b: bool, room: Room) -> Room
     }
 }
 
+// x where b is true, and else y.
+fn pick(b: bool, x: u32, y: u32) -> u32
+    ensures { λ r. ⌜ r ≡ cond b x y ⌝ }
+{
+    if b { x } else { y }
+}
+
 // f where level v is b, and false elsewhere.
 fn guard(
     v: u8,
@@ -725,10 +741,9 @@ fn guard(
     requires { ⌜ v ≤ lastLevel ⌝ }
     ensures { λ r. ⌜ Guards (entering level low high head next memo room) (leaving level low high head next memo r) (v + 1) (guarded v b) f (r .root) ⌝ }
 {
-    if b {
-        return node(v, 0, f, room, level, low, high, head, next, memo);
-    }
-    node(v, f, 0, room, level, low, high, head, next, memo)
+    let lo = pick(b, 0, f);
+    let hi = pick(b, f, 0);
+    node(v, lo, hi, room, level, low, high, head, next, memo)
 }
 
 // f where levels v and w, v the lower one, are equal, and false elsewhere.
@@ -891,10 +906,18 @@ pub fn same(
     requires { ⌜ (v ≤ lastLevel) × (w ≤ lastLevel) × (v ≡ w → ⊥) ⌝ }
     ensures { λ r. ⌜ Lists (entering level low high head next memo room) (leaving level low high head next memo r) (same v w) (r .root) ⌝ }
 {
-    if v < w {
-        return pair(v, w, 1, room, level, low, high, head, next, memo);
-    }
-    pair(w, v, 1, room, level, low, high, head, next, memo)
+    pair(
+        smaller(v, w),
+        larger(v, w),
+        1,
+        room,
+        level,
+        low,
+        high,
+        head,
+        next,
+        memo,
+    )
 }
 
 // ---- several levels
@@ -997,13 +1020,16 @@ pub fn rename_from(
 }
 
 // Binary digit k of n.
-fn digit_at(n: u32, k: u8) -> bool
+fn digit_at(n: u64, k: u8) -> bool
     ensures { λ r. ⌜ r ≡ bit n k ⌝ }
 {
-    if k == 0 {
-        return n % 2 == 1;
+    let mut m = n;
+    let mut i = k;
+    while 0 < i {
+        m = m / 2;
+        i = i - 1;
     }
-    digit_at(n / 2, k - 1)
+    m % 2 == 1
 }
 
 // The levels below n fixed to the digits of c, upward.
@@ -1030,7 +1056,7 @@ pub fn fix_below(
     fix(
         m.root,
         n - 1,
-        digit_at(c, n - 1),
+        digit_at(c as u64, n - 1),
         m,
         level,
         low,

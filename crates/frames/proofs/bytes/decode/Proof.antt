@@ -1,0 +1,47 @@
+-- `frames::bytes::decode` meets its contract: by the tests, each with its law of what decoding answers.
+-- Assumes nothing.
+use mathlib.Core.Path.{_≡_, sym, _∙_}
+use mathlib.Core.Bool.{true}
+use Prim.Native.Nat.{_<_}
+use native.Mathlib.Omega.{arith}
+use lib.ListN.{length}
+use borrow.Author.Tests.{not-true, not-false}
+use Rattle.frames.specs.Bytes.{spelt, bytesOf, maxBytes, heldBy, decoded}
+use Rattle.frames.proofs.ByteLaws.{length-bytes, decoding-stray, decoding-long, decoding-bytes}
+use borrow.Author.Needs.{needs}
+use Rattle.frames.proofs.bytes.decode.Statement.{statement}
+use Rattle.frames.proofs.bytes.decode.Tie as tie
+
+-- past the first test the digits spell bytes
+whole : (c : tie.Else1) → spelt (c .before .before .before .args .digits .now) ≡ true
+whole c = sym (c .before .spells .ensures) ∙ not-false (c .before .spells .result) (c .if1 .left)
+
+spells-requires : tie.Need-spells-requires
+spells-requires c κs = search needs
+
+returns : tie.Need-returns
+unfolding decoded heldBy
+returns c = rw (decoding-stray _ (sym (c .before .spells .ensures) ∙ not-true (c .before .spells .result) (c .if1 .taken)))
+
+returns-2 : tie.Need-returns-2
+unfolding decoded heldBy
+returns-2 c =
+    let ds = c .before .before .before .before .args .digits .now in
+    let l : maxBytes < length (bytesOf ds) = omega (arith, length-bytes ds) in
+    rw (decoding-long ds (whole (c .before)) l)
+
+decode-bytes-requires : tie.Need-decode-bytes-requires
+decode-bytes-requires c κs =
+    let e = length-bytes (c .before .before .before .before .args .digits .now) in
+    (whole (c .before), omega arith)
+
+returns-3 : tie.Need-returns-3
+unfolding decoded heldBy
+returns-3 c =
+    let ds = c .before .before .before .before .before .args .digits .now in
+    let e = length-bytes ds in
+    rw (decoding-bytes ds (whole (c .before .before)) (omega arith)) (cc)
+
+pub decode-spec : {M : Type 1} → statement M
+decode-spec =
+    tie.close (tie.spec spells-requires returns returns-2 decode-bytes-requires returns-3)
