@@ -1,4 +1,4 @@
--- `nodes::digit_at` meets its contract: the loop keeps that digit i of m is digit k of n.
+-- `nodes::digit_at` meets its contract: the loop keeps that digit i of m is digit k of n. Assumes nothing.
 use mathlib.Core.Path.{_≡_, refl, sym, _∙_}
 use native.Mathlib.Omega.{arith}
 use Rattle.nodes.specs.Formula.{bit}

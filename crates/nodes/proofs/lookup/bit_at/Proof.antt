@@ -1,4 +1,4 @@
--- `nodes::lookup::bit_at` meets its contract: the tests tell the level's place.
+-- `nodes::lookup::bit_at` meets its contract: the tests tell the level's place. Assumes nothing.
 use mathlib.Core.Path.{refl, sym, _∙_}
 use native.Mathlib.Omega.{arith}
 use borrow.Author.Needs.{needs}

@@ -1,4 +1,4 @@
--- `nodes::lookup::slices_fit` meets its contract: by the tests.
+-- `nodes::lookup::slices_fit` meets its contract: by the tests. Assumes nothing.
 use borrow.Author.Tests.{eq-eqb, ne-eqb, le-leb, lt-leb}
 use Rattle.nodes.specs.Lookup.{table-fits}
 use Rattle.nodes.proofs.lookup.slices_fit.Statement.{statement}

@@ -1,4 +1,4 @@
--- `nodes::lookup::values_fit` meets its contract: by the tests.
+-- `nodes::lookup::values_fit` meets its contract: by the tests. Assumes nothing.
 use borrow.Author.Tests.{lt-ltb, le-ltb, le-leb, lt-leb}
 use Rattle.nodes.specs.Lookup.{small}
 use Rattle.nodes.proofs.lookup.values_fit.Statement.{statement}

@@ -1,4 +1,4 @@
--- `nodes::lookup::walk` meets its contract: the loop keeps that the walk from entry i is the walk from the root.
+-- `nodes::lookup::walk` meets its contract: the loop keeps that the walk from entry i is the walk from the root. Assumes nothing.
 use mathlib.Core.Path.{_≡_, refl, sym, _∙_}
 use mathlib.Core.Logic.{⊎-elim}
 use native.Mathlib.Omega.{arith}
