@@ -1,0 +1,4 @@
+// Reads left.hex and right.hex, compares the models strongly and weakly, and prints both answers.
+fn main() {
+    checking::run();
+}

@@ -1,0 +1,184 @@
+// For stored models, prints the derived steps that the relation shows: a model is compared with itself, and for every two states and action
+// there is a look-up from the relation's root. A code is a state's where the last iterate relates it to itself. The stored output was made by
+// the independent program.
+use libc::STDOUT_FILENO;
+use nodes::lookup::Looked;
+use nodes::lookup::look_up;
+use verdicts::Answer;
+use verdicts::compare::compare;
+
+fn say(text: &[u8]) {
+    io::write_all(STDOUT_FILENO, text);
+}
+
+fn number(n: u64) {
+    io::print_decimal(STDOUT_FILENO, n);
+}
+
+// Whether a look-up gives 1.
+fn holds(
+    level: &[u8],
+    low: &[u32],
+    high: &[u32],
+    root: u64,
+    action: u64,
+    x: u64,
+    x1: u64,
+    y: u64,
+) -> bool {
+    match look_up(level, low, high, root, action, x, x1, y, 0) {
+        Looked::Value(v) => v == 1,
+        Looked::Turned(_) => false,
+    }
+}
+
+fn print_step(x: u64, action: u64, y: u64) {
+    number(x);
+    say(b" ");
+    number(action);
+    say(b" ");
+    number(y);
+    say(b"\n");
+}
+
+// The steps by an action from x to the codes below n.
+fn steps_by(
+    level: &[u8],
+    low: &[u32],
+    high: &[u32],
+    relation: u64,
+    iterate: u64,
+    x: u64,
+    action: u64,
+    n: u64,
+) {
+    for y in 0..n {
+        if holds(level, low, high, iterate, 0, y, 0, y) {
+            if holds(level, low, high, relation, action, x, y, 0) {
+                print_step(x, action, y);
+            }
+        }
+    }
+}
+
+// The steps from x.
+fn steps_from(
+    level: &[u8],
+    low: &[u32],
+    high: &[u32],
+    relation: u64,
+    iterate: u64,
+    x: u64,
+    n: u64,
+) {
+    for action in 0..64 {
+        steps_by(level, low, high, relation, iterate, x, action, n);
+    }
+}
+
+// The steps from the codes below n that are states.
+fn print_steps(level: &[u8], low: &[u32], high: &[u32], relation: u64, iterate: u64, n: u64) {
+    for x in 0..n {
+        if holds(level, low, high, iterate, 0, x, 0, x) {
+            steps_from(level, low, high, relation, iterate, x, n);
+        }
+    }
+}
+
+// A model of so many codes.
+fn show(name: &[u8], text: &[u8], n: u64) {
+    say(name);
+    say(b"\n");
+    let mut level = [0u8; 16384];
+    let mut low = [0u32; 16384];
+    let mut high = [0u32; 16384];
+    let mut head = [0u32; 4096];
+    let mut next = [0u32; 16384];
+    let mut memo = [0u32; 16384];
+    let answer = compare(
+        text,
+        text,
+        0,
+        1000,
+        &mut level,
+        &mut low,
+        &mut high,
+        &mut head,
+        &mut next,
+        &mut memo,
+    );
+    if let Answer::Equal {
+        left,
+        right: _,
+        iterate,
+        rounds: _,
+        nodes: _,
+    } = answer {
+        print_steps(&level, &low, &high, left as u64, iterate as u64, n);
+    }
+}
+
+fn first() {
+    show(
+        b"leaf of three states",
+        b"000103000201010002020300000201000000\n",
+        4,
+    );
+    show(b"leaf of one state", b"000101000000000400\n", 1);
+    show(
+        b"compose, one line twice",
+        b"000102000201010300000001\n01020000\n",
+        4,
+    );
+    show(
+        b"compose of three states",
+        b"000103000201010002\n010102000301010000\n02020001\n",
+        8,
+    );
+    show(
+        b"restrict",
+        b"000102000201010300000400010001\n01030001\n",
+        2,
+    );
+}
+
+fn second() {
+    show(b"restrict nothing", b"000102000201\n010300\n", 2);
+    show(
+        b"relabel",
+        b"000102000201010300000400010001\n0104000102\n",
+        2,
+    );
+    show(b"relabel to itself", b"000102000201010500\n0104000101\n", 2);
+    show(b"hide", b"000102000201010300000400010001\n010500011F\n", 2);
+    show(
+        b"joint",
+        b"000102000201010400000300\n010103000201010202000500020000\n0206000101\n",
+        8,
+    );
+}
+
+fn third() {
+    show(b"joint on nothing", b"000102000201\n01060000\n", 4);
+    show(
+        b"all operators nested",
+        b"000102000201010300010001\n010103000301010402020200\n02020001\n0304020203\n0406030003\n05050401\n06030502\n",
+        16,
+    );
+    show(
+        b"restrict of compose of relabels",
+        b"000102000301010400\n0104000203\n0204000103\n03020102\n04030303\n",
+        4,
+    );
+    show(
+        b"unused lines",
+        b"000102000201\n01014000023F\n02020101\n03050002\n",
+        2,
+    );
+}
+
+fn main() {
+    first();
+    second();
+    third();
+}
