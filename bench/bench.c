@@ -1,0 +1,70 @@
+/* The same pairs through the library and through BuDDy, in one process: CPU seconds and their ratio.
+   bench LEFT RIGHT MODE [TABLE]: one line, tab-separated: verdict rounds nodes seconds(library) seconds(BuDDy) ratio nodes/s. */
+#include "../include/seipolku.h"
+#include "buddy.h"
+#include <stdio.h>
+#include <stdlib.h>
+#include <string.h>
+#include <time.h>
+
+static double now(void) {
+    struct timespec t;
+    clock_gettime(CLOCK_PROCESS_CPUTIME_ID, &t);
+    return (double)t.tv_sec + 1e-9 * (double)t.tv_nsec;
+}
+
+static unsigned char *read_file(const char *path, size_t *len) {
+    FILE *f = fopen(path, "rb");
+    if (!f) {
+        perror(path);
+        exit(2);
+    }
+    unsigned char *text = malloc(65536);
+    *len = fread(text, 1, 65536, f);
+    fclose(f);
+    return text;
+}
+
+typedef struct { uint8_t *level; uint32_t *low, *high, *head, *next, *memo; size_t len; } Table;
+
+static Table new_table(size_t len) {
+    Table t = {malloc(len), malloc(4 * len), malloc(4 * len), malloc(4 * len), malloc(4 * len), malloc(8 * len), len};
+    memset(t.level, 0xA5, len), memset(t.low, 0xA5, 4 * len), memset(t.high, 0xA5, 4 * len);
+    memset(t.head, 0xA5, 4 * len), memset(t.next, 0xA5, 4 * len), memset(t.memo, 0xA5, 8 * len);
+    return t;
+}
+
+int main(int argc, char **argv) {
+    if (argc < 4) {
+        fprintf(stderr, "usage: %s LEFT RIGHT MODE [TABLE]\n", argv[0]);
+        return 2;
+    }
+    size_t left_len, right_len;
+    unsigned char *left = read_file(argv[1], &left_len), *right = read_file(argv[2], &right_len);
+    int mode = atoi(argv[3]);
+    Table t = new_table(argc > 4 ? strtoul(argv[4], NULL, 10) : 1048576);
+    uint64_t answer[6];
+
+    double a = now();
+    uint64_t kind = seipolku_compare(left, left_len, right, right_len, (uint64_t)mode, 1000000, t.level, t.len, t.low, t.len, t.high, t.len,
+                                     t.head, t.len, t.next, t.len, t.memo, 2 * t.len, answer, 6);
+    double ours = now() - a;
+    if (kind > 1) {
+        printf("refused %lu\n", (unsigned long)answer[0]);
+        return 1;
+    }
+
+    buddy_start((int)(2 * t.len), (int)(t.len / 2));
+    a = now();
+    Buddy b = buddy_compare(left, left_len, right, right_len, mode);
+    double theirs = now() - a;
+    int nodes = buddy_nodes();
+    if (b.equal != (kind == 0) || b.rounds != answer[3] || (uint64_t)nodes != answer[4]) {
+        printf("DISAGREE: library %lu %lu %lu, BuDDy %d %llu %d\n", (unsigned long)kind, (unsigned long)answer[3], (unsigned long)answer[4], !b.equal, b.rounds, nodes);
+        return 1;
+    }
+    printf("%s\t%lu\t%lu\t%.4f\t%.4f\t%.2f\t%.0f\n", kind ? "different" : "equal", (unsigned long)answer[3], (unsigned long)answer[4], ours, theirs, ours / theirs,
+           (double)answer[4] / ours);
+    buddy_end();
+    return 0;
+}

@@ -1,0 +1,46 @@
+/* Seipolku: comparing two models by strong and weak bisimilarity, with the caller's memory.
+ *
+ * Every slice is a pointer and a length in elements. Nothing is allocated, and nothing is kept between calls.
+ * Slices that are lent must not overlap. Every byte and number is taken; no call fails in any other way than by its answer.
+ */
+#ifndef SEIPOLKU_H
+#define SEIPOLKU_H
+
+#include <stddef.h>
+#include <stdint.h>
+
+#ifdef __cplusplus
+extern "C" {
+#endif
+
+/* What seipolku_compare returns. */
+enum {
+    SEIPOLKU_EQUAL = 0,     /* answer: left root, right root, iterate root, rounds, nodes, 0 */
+    SEIPOLKU_DIFFERENT = 1, /* answer: left root, right root, 0, rounds, nodes, 0 */
+    SEIPOLKU_REFUSED = 2,   /* answer: number, side (0 left, 1 right, 2 neither), line, 0, 0, 0 */
+    SEIPOLKU_SHORT = 3      /* answer has fewer than 6 words; nothing was touched */
+};
+
+/* Compares the models of two texts, in strong mode (0) or weak mode (1), by the iterates up to the limit.
+ *
+ * level, low and high are the table: of one length, 2 to 1,048,576. A refusal 1 to 7 leaves them untouched; after a verdict they hold
+ * an ordered, reduced table without duplicates, in which seipolku_look_up reads.
+ * head and next (hash index) and memo (computed table) are for work: any length, also 0, and any content. No answer depends on them, only
+ * the time. Recommended: head and next as long as the table, memo twice as long.
+ */
+uint64_t seipolku_compare(const uint8_t *left, size_t left_len, const uint8_t *right, size_t right_len, uint64_t mode, uint64_t limit,
+                          uint8_t *level, size_t level_len, uint32_t *low, size_t low_len, uint32_t *high, size_t high_len,
+                          uint32_t *head, size_t head_len, uint32_t *next, size_t next_len, uint32_t *memo, size_t memo_len,
+                          uint64_t *answer, size_t answer_len);
+
+/* The value at an action and four state codes, from a root of an answer: 0 or 1; or 7 (slices unequal, or of a length that no table has)
+ * or 10 (a number out of range, or a walk that leaves the table or its order). From a relation's root: whether the step is derived. From
+ * the iterate's root of "equal": whether the largest bisimulation holds the two now codes. */
+uint64_t seipolku_look_up(const uint8_t *level, size_t level_len, const uint32_t *low, size_t low_len, const uint32_t *high, size_t high_len,
+                          uint64_t root, uint64_t action, uint64_t left_now, uint64_t left_next, uint64_t right_now, uint64_t right_next);
+
+#ifdef __cplusplus
+}
+#endif
+
+#endif
