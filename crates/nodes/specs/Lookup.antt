@@ -49,7 +49,7 @@ small α x x′ y y′ =
 
 -- ---- the answer
 
--- the paper's number of the answer, 0 where there is none, and its values
+-- document 01's number of the answer, 0 where there is none, and its values
 abbrev pub turnedOf : Looked → ℕ
 turnedOf (Value v) = 0
 turnedOf (Turned number) = number
