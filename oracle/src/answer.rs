@@ -3,7 +3,7 @@
 use std::fmt;
 
 use crate::bisim::{self, Mode, Outcome};
-use crate::list;
+use crate::list::{self, Trace};
 use crate::model::Model;
 use crate::reader::{self, Refusal};
 use crate::steps::{self, Step};
@@ -15,6 +15,23 @@ pub enum Answer {
     Equal { rounds: u64, nodes: usize },
     Different { rounds: u64, nodes: usize },
     Refused { number: u8, side: u8, line: usize },
+}
+
+impl std::str::FromStr for Answer {
+    type Err = ();
+
+    fn from_str(words: &str) -> Result<Answer, ()> {
+        let (kind, rest) = words.split_once(' ').ok_or(())?;
+        let numbers: Result<Vec<u64>, _> = rest.split(' ').map(str::parse).collect();
+        match (kind, numbers.map_err(|_| ())?.as_slice()) {
+            ("equal", &[rounds, nodes]) => Ok(Answer::Equal { rounds, nodes: nodes as usize }),
+            ("different", &[rounds, nodes]) => Ok(Answer::Different { rounds, nodes: nodes as usize }),
+            ("refused", &[number @ 1..=9, side @ 0..=2, line]) => {
+                Ok(Answer::Refused { number: number as u8, side: side as u8, line: line as usize })
+            }
+            _ => Err(()),
+        }
+    }
 }
 
 impl fmt::Display for Answer {
@@ -32,6 +49,49 @@ impl fmt::Display for Answer {
 pub struct Checked {
     pub answer: Answer,
     pub explicit: bool,
+}
+
+/// What is known of two texts in one mode, whatever limit and table.
+#[derive(Clone, Debug)]
+pub enum Known {
+    Refused(Answer),
+    Traced(Trace),
+}
+
+/// Reads the texts and evaluates the whole list, as far as there is room.
+/// Where the explicit states give a verdict too, it has to be the same.
+pub fn known(left: &[u8], right: &[u8], mode: Mode, room: usize) -> Known {
+    let (left, right) = match (read_side(left, 0), read_side(right, 1)) {
+        (Ok(left), Ok(right)) => (left, right),
+        (Err(answer), _) | (_, Err(answer)) => return Known::Refused(answer),
+    };
+    let trace = list::trace(&left, &right, mode, room);
+    if let (Ok(by_list), Some(by_pairs)) = (trace.end, decide(&left, &right, mode, u64::MAX)) {
+        assert_eq!(by_pairs, by_list, "explicit pairs and list disagree");
+    }
+    Known::Traced(trace)
+}
+
+impl Trace {
+    /// The answer by this limit on a table of this length, which is at least 2;
+    /// if the list ended without room, it is not longer than that room and 2.
+    pub fn answer(&self, limit: u64, length: usize) -> Answer {
+        let refused = |number| Answer::Refused { number, side: 2, line: 0 };
+        let last = self.nodes.len() as u64;
+        let nodes = match self.nodes.get(limit.min(last) as usize) {
+            Some(&nodes) => nodes,
+            None if self.end.is_err() => return refused(8),
+            None => self.nodes[last as usize - 1],
+        };
+        if nodes > length - 2 {
+            return refused(8);
+        }
+        match self.end {
+            Ok(Outcome::Equal(rounds)) if rounds <= limit => Answer::Equal { rounds, nodes },
+            Ok(Outcome::Different(rounds)) if rounds <= limit => Answer::Different { rounds, nodes },
+            _ => refused(9),
+        }
+    }
 }
 
 /// Compares two texts; `lens` are the lengths of the three table slices.
@@ -69,7 +129,7 @@ pub fn mode_of(number: u64) -> Option<Mode> {
     }
 }
 
-fn table_fits((level, low, high): (usize, usize, usize)) -> bool {
+pub fn table_fits((level, low, high): (usize, usize, usize)) -> bool {
     level == low && low == high && (2..=MAX_TABLE).contains(&level)
 }
 

@@ -5,7 +5,7 @@ use crate::model::{width, MAX_BITS, MAX_USES};
 use crate::random::Random;
 use crate::vectors::Case;
 
-type Frame = Vec<u8>;
+pub type Frame = Vec<u8>;
 
 const LEAF: u8 = 1;
 const COMPOSE: u8 = 2;
@@ -26,8 +26,10 @@ pub fn text(frames: &[Frame]) -> Vec<u8> {
 /// An accepted model of at most `budget` bits; some of its lines may be unused.
 pub fn model(random: &mut Random, budget: u32) -> Vec<Frame> {
     let palette: Vec<u8> = (0..1 + random.below(3)).map(|_| channel(random)).collect();
-    let mut builder = Builder { random, palette, budget, frames: vec![], bits: vec![] };
-    let lines = 1 + builder.random.below(8);
+    let quiet = random.once_in(4);
+    let mut builder = Builder { random, palette, quiet, budget, frames: vec![], bits: vec![] };
+    let most = builder.random.pick(&[8, 8, 16]);
+    let lines = 1 + builder.random.below(most);
     for _ in 0..lines {
         builder.add_line();
     }
@@ -43,6 +45,8 @@ fn channel(random: &mut Random) -> u8 {
 struct Builder<'a> {
     random: &'a mut Random,
     palette: Vec<u8>,
+    /// Whether most steps are τ steps.
+    quiet: bool,
     budget: u32,
     frames: Vec<Frame>,
     bits: Vec<u32>,
@@ -84,13 +88,14 @@ impl Builder<'_> {
         (1..states).flat_map(|to| [to - 1, self.triple(states)[1], to]).collect()
     }
 
-    /// About one triple in three is a τ step.
+    /// About one triple in three is a τ step, in a quiet model two in three.
     fn triple(&mut self, states: u8) -> [u8; 3] {
         let any = self.random.below(states.into()) as u8;
         let from = self.random.pick(&[0, any, any]);
         let to = self.random.below(states.into()) as u8;
         let channel = self.random.pick(&self.palette);
-        let action = self.random.pick(&[0, 2 * channel, 2 * channel + 1]);
+        let visible = self.random.pick(&[2 * channel, 2 * channel + 1]);
+        let action = self.random.pick(&[0, visible, if self.quiet { 0 } else { visible }]);
         [from, action, to]
     }
 
@@ -102,7 +107,9 @@ impl Builder<'_> {
     }
 
     fn two_operands(&mut self) -> Option<(usize, usize)> {
-        let (i, j) = (self.operand(), self.random.below(self.frames.len()));
+        let i = self.operand();
+        let any = self.random.below(self.frames.len());
+        let j = self.random.pick(&[i, any, any, any]);
         let (i, j) = if self.random.once_in(2) { (i, j) } else { (j, i) };
         (self.bits[i] + self.bits[j] <= self.budget).then_some((i, j))
     }

@@ -6,13 +6,19 @@
 pub mod answer;
 pub mod bisim;
 pub mod bits;
+pub mod calls;
+pub mod codes;
 pub mod diagram;
 pub mod generate;
 pub mod list;
+pub mod lookup;
 pub mod model;
 pub mod random;
 pub mod reader;
 pub mod steps;
+pub mod stream;
+pub mod tables;
+pub mod texts;
 pub mod vectors;
 
 pub use answer::{compare, largest, steps, Answer};

@@ -1,5 +1,6 @@
 //! The program `oracle`; every command is a thin call into the library.
 
+use std::io::{self, BufWriter, Write};
 use std::process::ExitCode;
 use std::{env, fs};
 
@@ -7,6 +8,7 @@ use oracle::answer::{decide, mode_of};
 use oracle::bisim::Mode;
 use oracle::model::Model;
 use oracle::random::Random;
+use oracle::stream::{Cases, Stream};
 use oracle::{compare, generate, largest, reader, steps, vectors};
 
 const USAGE: &str = "usage:
@@ -16,7 +18,11 @@ const USAGE: &str = "usage:
   oracle pairs LEFT RIGHT MODE
   oracle read MODEL
   oracle vectors FILE
-  oracle generate SEED COUNT";
+  oracle generate SEED COUNT
+  oracle stream texts|comparisons|shown|tables SEED FIRST COUNT
+  oracle stream vectors FILE SEED
+
+stream writes cases with their expected answers as records for tests/c/runner.c.";
 
 const TOO_LARGE: &str = "too large to enumerate";
 
@@ -75,12 +81,38 @@ fn run(words: &[&str]) -> Done {
             }
             Ok(true)
         }
+        ["stream", "vectors", path, seed] => {
+            let file = ascii(path)?;
+            written(stream().vectors(&file, number(seed)?))
+        }
+        ["stream", part, seed, first, count] => {
+            let cases = Cases { seed: number(seed)?, first: number(first)?, count: number(count)? };
+            written(match part {
+                "texts" => stream().texts(cases),
+                "comparisons" => stream().comparisons(cases),
+                "shown" => stream().shown(cases),
+                "tables" => stream().tables(cases),
+                _ => return Err(USAGE.to_string()),
+            })
+        }
         _ => Err(USAGE.to_string()),
     }
 }
 
+fn stream() -> Stream<impl Write> {
+    Stream(BufWriter::with_capacity(1 << 16, io::stdout().lock()))
+}
+
+fn written(result: io::Result<()>) -> Done {
+    result.map(|()| true).map_err(|error| error.to_string())
+}
+
 fn bytes(path: &str) -> Result<Vec<u8>, String> {
     fs::read(path).map_err(|error| format!("{path}: {error}"))
+}
+
+fn ascii(path: &str) -> Result<String, String> {
+    String::from_utf8(bytes(path)?).map_err(|_| "vectors are ASCII".to_string())
 }
 
 fn number<N: std::str::FromStr>(word: &str) -> Result<N, String> {
@@ -111,7 +143,7 @@ fn read(path: &str) -> Done {
 
 /// Prints every line whose answer differs, then the totals.
 fn check_vectors(path: &str) -> Done {
-    let file = String::from_utf8(bytes(path)?).map_err(|_| "vectors are ASCII")?;
+    let file = ascii(path)?;
     let (mut agree, mut differ, mut explicit) = (0, 0, 0);
     for line in file.lines().filter(|line| vectors::is_vector(line)) {
         let vector = vectors::parse(line).ok_or_else(|| format!("malformed vector: {line}"))?;

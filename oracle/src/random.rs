@@ -7,6 +7,12 @@ impl Random {
         Random(seed)
     }
 
+    /// The numbers of one case of a seed, whatever the other cases draw.
+    pub fn of_case(seed: u64, case: u64) -> Self {
+        let start = Random(seed).draw();
+        Random(start ^ Random(case).draw())
+    }
+
     pub fn draw(&mut self) -> u64 {
         self.0 = self.0.wrapping_add(0x9E37_79B9_7F4A_7C15);
         let mut z = self.0;

@@ -1,0 +1,187 @@
+//! Generated comparisons with all that is lent to them, and their expected answers.
+
+use crate::answer::{known, mode_of, table_fits, Answer, Known};
+use crate::bisim::Mode;
+use crate::generate::{malformed, pair, text};
+use crate::random::Random;
+use crate::reader::read;
+
+/// The arguments of a call that are not texts; lengths are in elements.
+#[derive(Clone, Debug)]
+pub struct Call {
+    pub mode: u64,
+    pub limit: u64,
+    /// Level, low and high.
+    pub table: [usize; 3],
+    /// Head, next and memo.
+    pub work: [usize; 3],
+    /// Words of the answer.
+    pub words: usize,
+}
+
+impl Call {
+    /// None where the answer has too few words.
+    pub fn expected(&self, known: &Known) -> Option<Answer> {
+        let [level, low, high] = self.table;
+        if self.words < 6 {
+            None
+        } else if mode_of(self.mode).is_none() || !table_fits((level, low, high)) {
+            Some(Answer::Refused { number: 7, side: 2, line: 0 })
+        } else {
+            Some(match known {
+                Known::Refused(answer) => *answer,
+                Known::Traced(trace) => trace.answer(self.limit, level),
+            })
+        }
+    }
+}
+
+/// Two texts with what is known of them in one mode.
+pub struct Pair {
+    pub left: Vec<u8>,
+    pub right: Vec<u8>,
+    pub mode: u64,
+    pub known: Known,
+}
+
+/// Lists that need more nodes are given up; few generated ones do.
+const ROOM: usize = 1 << 17;
+
+impl Pair {
+    pub fn new(left: Vec<u8>, right: Vec<u8>, mode: Mode) -> Pair {
+        let known = known(&left, &right, mode, ROOM);
+        Pair { left, right, mode: mode as u64, known }
+    }
+
+    /// Nodes needed up to the verdict, or all the room if they do not fit into it.
+    pub fn needed(&self) -> usize {
+        match &self.known {
+            Known::Traced(trace) if trace.end.is_ok() => trace.nodes.last().copied().unwrap_or(0),
+            Known::Traced(_) => ROOM,
+            Known::Refused(_) => 0,
+        }
+    }
+
+    /// Whether the list was evaluated up to a verdict.
+    pub fn has_verdict(&self) -> bool {
+        matches!(&self.known, Known::Traced(trace) if trace.end.is_ok())
+    }
+
+    /// The product of the two numbers of states; 1 if a text is refused.
+    fn product(&self) -> u64 {
+        let states = |text: &[u8]| read(text).map_or(1, |model| model.last().states());
+        states(&self.left) * states(&self.right)
+    }
+}
+
+/// A pair of any sort; in one of eight a text is likely refused.
+pub fn any_pair(random: &mut Random) -> Pair {
+    let mode = random.pick(&[Mode::Strong, Mode::Weak]);
+    let budget = random.pick(&[2, 3, 4, 5, 6]);
+    let (left, right) = pair(random, budget);
+    let (mut left, mut right) = (text(&left), text(&right));
+    match random.below(24) {
+        0 => left = malformed(random),
+        1 => right = malformed(random),
+        2 => (left, right) = (malformed(random), malformed(random)),
+        _ => {}
+    }
+    Pair::new(left, right, mode)
+}
+
+/// A pair of small accepted models, whose look-ups are all made.
+pub fn small_pair(random: &mut Random, budget: u32) -> Pair {
+    let mode = random.pick(&[Mode::Strong, Mode::Weak]);
+    let (left, right) = pair(random, budget);
+    Pair::new(text(&left), text(&right), mode)
+}
+
+/// The call without a limit on a table that the list just fits.
+pub fn fitting(random: &mut Random, pair: &Pair) -> Call {
+    let length = pair.needed() + 2;
+    let words = random.pick(&[6, 6, 6, 7, 9, 20]);
+    Call { mode: pair.mode, limit: u64::MAX, table: [length; 3], work: work(random, length), words }
+}
+
+/// Fitting and just not fitting, a limit at an edge, and one call more of any sort.
+pub fn calls(random: &mut Random, pair: &Pair) -> Vec<Call> {
+    let length = pair.needed() + 2;
+    let fits = fitting(random, pair);
+    let full = Call { table: [length - 1; 3], work: work(random, length), ..fits.clone() };
+    let limit = random.pick(&[0, 1, 2, pair.product(), u64::MAX]);
+    let limited = Call { limit, work: work(random, length), ..fits.clone() };
+    let any = other(random, pair, &limited);
+    vec![fits, full, limited, any]
+}
+
+/// Lengths of the work slices, each on its own.
+pub fn work(random: &mut Random, length: usize) -> [usize; 3] {
+    [0; 3].map(|_| {
+        let odd = 2 * random.below(length) + 1;
+        let large = 2 * length + random.below(1000);
+        random.pick(&[0, 1, odd, length, large])
+    })
+}
+
+/// A longer table, a table that a limited list just fits or not, a call that refusal 7 is due of, or too few words.
+fn other(random: &mut Random, pair: &Pair, call: &Call) -> Call {
+    let mut other = call.clone();
+    match random.below(8) {
+        0 => other.mode = random.pick(&[2, 3, 255, 256, 1 << 32, (1 << 32) + 1, u64::MAX]),
+        1 => other.table = [random.below(2); 3],
+        2 => other.table = unequal(random, call.table[0]),
+        3 => other.words = random.below(6),
+        4 => other.table = long(random, pair),
+        5 if pair.has_verdict() => other.table = [call.table[0] + random.below(1000); 3],
+        _ => other.table = at_limit(random, pair, call),
+    }
+    other
+}
+
+/// One of the three slices is of another length.
+fn unequal(random: &mut Random, length: usize) -> [usize; 3] {
+    let mut table = [length; 3];
+    table[random.below(3)] = random.pick(&[0, 1, 2, length - 1, length + 1, 2 * length + 1]);
+    table
+}
+
+/// At times the longest table, or one that is too long by an entry.
+fn long(random: &mut Random, pair: &Pair) -> [usize; 3] {
+    let longest = 1 << 20;
+    match random.below(32) {
+        0 if pair.has_verdict() => [longest; 3],
+        1 => [longest + 1; 3],
+        2 => [longest, longest + 1, longest],
+        _ => [pair.needed() + 2; 3],
+    }
+}
+
+/// What the list up to the call's limit needs, or an entry less.
+fn at_limit(random: &mut Random, pair: &Pair, call: &Call) -> [usize; 3] {
+    let Known::Traced(trace) = &pair.known else {
+        return [2 + random.below(100); 3];
+    };
+    let last = trace.nodes.len().saturating_sub(1);
+    let needed = trace.nodes.get(call.limit.min(last as u64) as usize).copied().unwrap_or(0);
+    [needed + 1 + random.below(2); 3]
+}
+
+#[cfg(test)]
+mod tests {
+    use super::*;
+    use crate::answer::compare;
+
+    #[test]
+    fn traced_answers_are_those_of_a_comparison() {
+        for case in 0..400 {
+            let mut random = Random::of_case(29, case);
+            let pair = any_pair(&mut random);
+            for call in calls(&mut random, &pair) {
+                let [level, low, high] = call.table;
+                let direct = compare(&pair.left, &pair.right, call.mode, call.limit, (level, low, high));
+                let expected = call.expected(&pair.known);
+                assert_eq!(expected, (call.words >= 6).then_some(direct), "{call:?}");
+            }
+        }
+    }
+}

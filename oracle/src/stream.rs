@@ -1,0 +1,253 @@
+//! Cases with their expected answers, for a program that runs them through the library: records of 64-bit numbers,
+//! lowest byte first, and bytes that follow their number. Each record starts with its tag.
+
+use std::io::{self, Write};
+
+use crate::answer::{largest, mode_of, Answer, Known};
+use crate::calls::{any_pair, calls, fitting, small_pair, work, Call, Pair};
+use crate::codes::holds;
+use crate::list;
+use crate::lookup::{look_up, Ask};
+use crate::model::Model;
+use crate::random::Random;
+use crate::reader::read;
+use crate::steps::{derive, Step};
+use crate::tables::{any_ask, any_table, Table};
+use crate::texts::any_text;
+use crate::vectors::{is_vector, parse};
+
+const TEXT: u64 = 1;
+const PAIR: u64 = 2;
+const CALL: u64 = 3;
+const SHOWN: u64 = 4;
+const TABLE: u64 = 5;
+const ASK: u64 = 6;
+const END: u64 = 7;
+
+/// What a call returns if its answer has too few words.
+const SHORT: u64 = 3;
+
+/// The text beside which a text is judged as the right one.
+const BESIDE: &[u8] = b"000101\n";
+
+/// The cases from `first` on, so many of them.
+#[derive(Clone, Copy, Debug)]
+pub struct Cases {
+    pub seed: u64,
+    pub first: u64,
+    pub count: u64,
+}
+
+impl Cases {
+    /// Each case with its number and its own source of numbers.
+    fn each(self) -> impl Iterator<Item = (u64, Random)> {
+        (self.first..self.first + self.count).map(move |case| (case, Random::of_case(self.seed, case)))
+    }
+}
+
+pub struct Stream<W: Write>(pub W);
+
+impl<W: Write> Stream<W> {
+    /// Texts, each to be judged as the left and as the right one.
+    pub fn texts(&mut self, cases: Cases) -> io::Result<()> {
+        for (case, mut random) in cases.each() {
+            self.text(case, &mut random)?;
+        }
+        self.end()
+    }
+
+    /// Comparisons of pairs, some calls each.
+    pub fn comparisons(&mut self, cases: Cases) -> io::Result<()> {
+        for (case, mut random) in cases.each() {
+            let pair = any_pair(&mut random);
+            self.pair(case, &pair.left, &pair.right)?;
+            for call in calls(&mut random, &pair) {
+                self.call(&mut random, &call, call.expected(&pair.known))?;
+            }
+        }
+        self.end()
+    }
+
+    /// Comparisons of small pairs, after which every step and every pair of codes is looked up.
+    pub fn shown(&mut self, cases: Cases) -> io::Result<()> {
+        for (case, mut random) in cases.each() {
+            let budget = random.pick(&[2, 2, 3, 3, 3, 4]);
+            let pair = small_pair(&mut random, budget);
+            self.pair(case, &pair.left, &pair.right)?;
+            let call = fitting(&mut random, &pair);
+            self.call(&mut random, &call, call.expected(&pair.known))?;
+            if let Some(shown) = Shown::new(&pair) {
+                self.show(&mut random, &shown)?;
+            }
+        }
+        self.end()
+    }
+
+    /// Tables, whole and broken, with look-ups.
+    pub fn tables(&mut self, cases: Cases) -> io::Result<()> {
+        for (case, mut random) in cases.each() {
+            let table = any_table(&mut random);
+            let slices = table.slices();
+            self.table(case, &table)?;
+            for _ in 0..16 {
+                let ask = any_ask(&mut random, &table);
+                self.ask(&ask, look_up(&slices, &ask))?;
+            }
+        }
+        self.end()
+    }
+
+    /// The lines of a file of vectors with the answers that stand there, counted from 1.
+    pub fn vectors(&mut self, file: &str, seed: u64) -> io::Result<()> {
+        for (number, line) in (1..).zip(file.lines()).filter(|(_, line)| is_vector(line)) {
+            let malformed = || io::Error::other(format!("line {number} is no vector"));
+            let vector = parse(line).ok_or_else(malformed)?;
+            let answer: Answer = vector.expected.parse().map_err(|()| malformed())?;
+            let mut random = Random::of_case(seed, number);
+            let length = vector.case.length;
+            // Without work memory a large list takes long.
+            let work =
+                if length > 4096 { [length, length, 2 * length] } else { work(&mut random, length + 2) };
+            let (mode, limit) = (vector.case.mode, vector.case.limit);
+            self.pair(number, &vector.case.left, &vector.case.right)?;
+            self.call(&mut random, &Call { mode, limit, table: [length; 3], work, words: 7 }, Some(answer))?;
+        }
+        self.end()
+    }
+
+    // Records.
+
+    fn number(&mut self, number: u64) -> io::Result<()> {
+        self.0.write_all(&number.to_le_bytes())
+    }
+
+    fn numbers(&mut self, numbers: &[u64]) -> io::Result<()> {
+        numbers.iter().try_for_each(|&number| self.number(number))
+    }
+
+    fn bytes(&mut self, bytes: &[u8]) -> io::Result<()> {
+        self.number(bytes.len() as u64)?;
+        self.0.write_all(bytes)
+    }
+
+    fn end(&mut self) -> io::Result<()> {
+        self.number(END)?;
+        self.0.flush()
+    }
+
+    /// The refusal's number (0 if there is none) and line; and what a comparison with limit 0 beside another text says,
+    /// in this mode on a table of this length.
+    fn text(&mut self, case: u64, random: &mut Random) -> io::Result<()> {
+        let text = any_text(random);
+        let (mode, length) = (random.below(2) as u64, 2 + random.below(8));
+        let (number, line, beside) = match read(&text) {
+            Err(refusal) => (refusal.number, refusal.line, 0),
+            Ok(model) => (0, 0, beside(&model, mode, length)),
+        };
+        self.numbers(&[TEXT, case])?;
+        self.bytes(&text)?;
+        self.numbers(&[number.into(), line as u64, mode, length as u64, beside])
+    }
+
+    fn pair(&mut self, case: u64, left: &[u8], right: &[u8]) -> io::Result<()> {
+        self.numbers(&[PAIR, case])?;
+        self.bytes(left)?;
+        self.bytes(right)
+    }
+
+    fn call(&mut self, random: &mut Random, call: &Call, expected: Option<Answer>) -> io::Result<()> {
+        self.numbers(&[CALL, call.mode, call.limit])?;
+        for length in call.table.iter().chain(&call.work).chain([&call.words]) {
+            self.number(*length as u64)?;
+        }
+        self.number(random.draw())?;
+        self.numbers(&match expected {
+            Some(Answer::Equal { rounds, nodes }) => [0, rounds, nodes as u64, 0],
+            Some(Answer::Different { rounds, nodes }) => [1, rounds, nodes as u64, 0],
+            Some(Answer::Refused { number, side, line }) => [2, number.into(), side.into(), line as u64],
+            None => [SHORT, 0, 0, 0],
+        })
+    }
+
+    fn show(&mut self, random: &mut Random, shown: &Shown) -> io::Result<()> {
+        self.numbers(&[SHOWN, random.draw(), shown.left.0.into(), shown.right.0.into()])?;
+        self.bytes(&shown.left.1)?;
+        self.bytes(&shown.right.1)?;
+        self.bytes(&shown.pairs)
+    }
+
+    fn table(&mut self, case: u64, table: &Table) -> io::Result<()> {
+        self.numbers(&[TABLE, case])?;
+        self.numbers(&table.lengths.map(|length| length as u64))?;
+        self.numbers(&[table.fill.level.into(), table.fill.low.into(), table.fill.high.into()])?;
+        self.number(table.entries.len() as u64)?;
+        for (index, entry) in &table.entries {
+            self.numbers(&[*index as u64, entry.level.into(), entry.low.into(), entry.high.into()])?;
+        }
+        Ok(())
+    }
+
+    fn ask(&mut self, ask: &Ask, expected: u64) -> io::Result<()> {
+        self.numbers(&[ASK, ask.root, ask.action])?;
+        self.numbers(&ask.codes)?;
+        self.number(expected)
+    }
+}
+
+/// Refusal 8 or 9: whether the list up to B₀ fits into a table of this length.
+fn beside(model: &Model, mode: u64, length: usize) -> u64 {
+    let left = read(BESIDE).expect("accepted");
+    let mode = mode_of(mode).expect("0 or 1");
+    match list::evaluate(&left, model, mode, 0, length - 2) {
+        Ok(_) => 9,
+        Err(list::Full) => 8,
+    }
+}
+
+/// What the table of a verdict shows: a byte a look-up, for every code of each model's bits.
+struct Shown {
+    /// Bits, and values by now code, action and next code.
+    left: (u32, Vec<u8>),
+    right: (u32, Vec<u8>),
+    /// Values by left and right now code; none unless the verdict is "equal".
+    pairs: Vec<u8>,
+}
+
+impl Shown {
+    /// None if there is no verdict or a model is too large.
+    fn new(pair: &Pair) -> Option<Shown> {
+        let (left, right) = (read(&pair.left).ok()?, read(&pair.right).ok()?);
+        let Known::Traced(trace) = &pair.known else { return None };
+        let equal = matches!(trace.answer(u64::MAX, pair.needed() + 2), Answer::Equal { .. });
+        let pairs = if equal { related(&left, &right, pair.mode)? } else { vec![] };
+        pair.has_verdict().then_some(Shown { left: relation(&left)?, right: relation(&right)?, pairs })
+    }
+}
+
+/// Derived steps between states, the list's formula at other codes.
+fn relation(model: &Model) -> Option<(u32, Vec<u8>)> {
+    let bits = Some(model.last().bits()).filter(|&bits| bits <= 5)?;
+    let system = derive(model)?;
+    let is_state = |code: u32| system.states.binary_search(&code).is_ok();
+    let mut values = Vec::new();
+    for from in 0..1 << bits {
+        for action in 0..64 {
+            for to in 0..1 << bits {
+                values.push(u8::from(if is_state(from) && is_state(to) {
+                    system.steps.binary_search(&Step { from, action, to }).is_ok()
+                } else {
+                    holds(model, from, action, to)
+                }));
+            }
+        }
+    }
+    Some((bits, values))
+}
+
+/// Whether the largest bisimulation holds each pair of codes.
+fn related(left: &Model, right: &Model, mode: u64) -> Option<Vec<u8>> {
+    let largest = largest(left, right, mode_of(mode)?)?;
+    let codes = |model: &Model| 0..1u32 << model.last().bits();
+    let held = |x, y| u8::from(largest.binary_search(&(x, y)).is_ok());
+    Some(codes(left).flat_map(|x| codes(right).map(move |y| held(x, y)).collect::<Vec<_>>()).collect())
+}
