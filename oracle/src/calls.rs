@@ -114,12 +114,18 @@ pub fn calls(random: &mut Random, pair: &Pair) -> Vec<Call> {
     vec![fits, full, limited, any]
 }
 
-/// Lengths of the work slices, each on its own.
+/// Lengths of the work slices, each on its own: none, one, odd and large.
+/// A large list takes long without work memory, so it seldom or never goes without.
 pub fn work(random: &mut Random, length: usize) -> [usize; 3] {
+    let bare = length <= 400 || length <= 2000 && random.once_in(16);
     [0; 3].map(|_| {
         let odd = 2 * random.below(length) + 1;
         let large = 2 * length + random.below(1000);
-        random.pick(&[0, 1, odd, length, large])
+        if bare {
+            random.pick(&[0, 1, odd, length, large])
+        } else {
+            random.pick(&[odd.max(length / 2), length, large])
+        }
     })
 }
 

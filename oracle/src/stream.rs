@@ -3,7 +3,7 @@
 
 use std::io::{self, Write};
 
-use crate::answer::{largest, mode_of, Answer, Known};
+use crate::answer::{largest, mode_of, Answer, Known, MAX_TABLE};
 use crate::calls::{any_pair, calls, fitting, small_pair, work, Call, Pair};
 use crate::codes::holds;
 use crate::list;
@@ -104,10 +104,9 @@ impl<W: Write> Stream<W> {
             let vector = parse(line).ok_or_else(malformed)?;
             let answer: Answer = vector.expected.parse().map_err(|()| malformed())?;
             let mut random = Random::of_case(seed, number);
-            let length = vector.case.length;
-            // Without work memory a large list takes long.
-            let work =
-                if length > 4096 { [length, length, 2 * length] } else { work(&mut random, length + 2) };
+            // A length far out of range is as good as one just out of it, and can be lent.
+            let length = vector.case.length.min(MAX_TABLE + 1);
+            let work = work(&mut random, length.max(1));
             let (mode, limit) = (vector.case.mode, vector.case.limit);
             self.pair(number, &vector.case.left, &vector.case.right)?;
             self.call(&mut random, &Call { mode, limit, table: [length; 3], work, words: 7 }, Some(answer))?;
