@@ -1,0 +1,99 @@
+/* Faults between the runner and the library, one for each name that the environment's FAULT may have, to see that the comparison notices them (tests/faults).
+   Linked with --wrap, so that the runner calls these functions instead of the library's. */
+#include <stdint.h>
+#include <stdlib.h>
+#include <string.h>
+
+#define TABLE_ARGUMENTS uint8_t *level, size_t level_len, uint32_t *low, size_t low_len, uint32_t *high, size_t high_len
+#define COMPARE_ARGUMENTS                                                                                                                              \
+    uint8_t *left, size_t left_len, uint8_t *right, size_t right_len, uint64_t mode, uint64_t limit, TABLE_ARGUMENTS, uint32_t *head, size_t head_len, \
+        uint32_t *next, size_t next_len, uint32_t *memo, size_t memo_len, uint64_t *answer, size_t words
+#define LOOK_UP_ARGUMENTS TABLE_ARGUMENTS, uint64_t root, uint64_t action, uint64_t left_now, uint64_t left_next, uint64_t right_now, uint64_t right_next
+
+uint64_t __real_seipolku_compare(COMPARE_ARGUMENTS);
+uint64_t __real_seipolku_look_up(LOOK_UP_ARGUMENTS);
+uint64_t __wrap_seipolku_compare(COMPARE_ARGUMENTS);
+uint64_t __wrap_seipolku_look_up(LOOK_UP_ARGUMENTS);
+
+enum { EQUAL, DIFFERENT, REFUSED, SHORT, LONGEST_TEXT = 32704, LONGEST = 1 << 20 };
+
+static int fault(const char *name) {
+    const char *wanted = getenv("FAULT");
+    return wanted && strcmp(wanted, name) == 0;
+}
+
+/* Faults in what a call leaves of its answer. */
+static uint64_t answer_fault(uint64_t kind, uint64_t *answer, size_t words, size_t memo_len) {
+    if (kind == SHORT) {
+        if (fault("short answer written") && words > 0) answer[0] = 7;
+        return fault("short answer refused") ? REFUSED : kind;
+    }
+    if (fault("seventh word") && words > 6) answer[6] = 0;
+    if (kind == REFUSED) {
+        if (fault("refusal's number") && answer[0] == 6) answer[0] = 5;
+        if (fault("refusal's side") && answer[1] < 2) answer[1] ^= 1;
+        if (fault("refusal's line") && answer[2] > 0) answer[2]--;
+        return kind;
+    }
+    if (fault("verdict")) return kind == EQUAL && answer[4] > 100 ? DIFFERENT : kind;
+    if (fault("rounds") && answer[3] > 3) answer[3]--;
+    if (fault("nodes") && answer[4] > 500) answer[4]--;
+    if (fault("memo seen") && memo_len == 1) answer[3]++;
+    if (fault("roots swapped")) {
+        uint64_t left = answer[0];
+        answer[0] = answer[1], answer[1] = left;
+    }
+    if (fault("iterate of all pairs") && kind == EQUAL) answer[2] = 1;
+    return kind;
+}
+
+/* Faults in the memory that a call was lent. */
+static void memory_fault(uint64_t kind, COMPARE_ARGUMENTS) {
+    int refused = kind == REFUSED && answer[0] <= 7;
+    volatile uint8_t *bytes = left;
+    (void)right, (void)right_len, (void)mode, (void)limit, (void)low_len, (void)head, (void)next, (void)words;
+    if (fault("table touched") && refused && high_len) high[high_len - 1]++;
+    if (fault("level touched") && refused && level_len) level[0]++;
+    if (fault("text written") && left_len) bytes[0] = bytes[0];
+    if (fault("text read past its end")) (void)bytes[left_len];
+    if (fault("memo read past its end")) (void)((volatile uint32_t *)memo)[memo_len];
+    if (fault("head written past its end")) ((volatile uint32_t *)head)[head_len] = 0;
+    if (fault("next written past its end")) ((volatile uint32_t *)next)[next_len] = 0;
+    if (fault("work touched when short") && kind == SHORT && memo_len) memo[0]++;
+    if (kind > DIFFERENT) return;
+    if (fault("not reduced") && answer[0] > 1) low[answer[0]] = high[answer[0]];
+    if (fault("not ordered") && answer[0] > 1) level[answer[0]] = 125;
+    if (fault("no constants")) level[1] = 254;
+}
+
+uint64_t __wrap_seipolku_compare(COMPARE_ARGUMENTS) {
+    if (fault("mode cut to a byte")) mode &= 255;
+    if (fault("limit 0 taken as 1") && limit == 0) limit = 1;
+    if (fault("limit passed by")) limit = UINT64_MAX;
+    if (fault("long text cut") && left_len > LONGEST_TEXT) left_len = LONGEST_TEXT;
+    if (fault("CR skipped") && left_len > 1 && left[left_len - 2] == '\r') right_len = 0, left_len = 0;
+    if (fault("lengths not compared")) low_len = high_len = level_len;
+    if (fault("an entry too few") && level_len > 2) level_len--, low_len--, high_len--;
+    if (fault("an entry too many") && level_len > 1) level_len++, low_len++, high_len++;
+    uint64_t kind = __real_seipolku_compare(left, left_len, right, right_len, mode, limit, level, level_len, low, low_len, high, high_len, head, head_len, next,
+                                            next_len, memo, memo_len, answer, words);
+    memory_fault(kind, left, left_len, right, right_len, mode, limit, level, level_len, low, low_len, high, high_len, head, head_len, next, next_len,
+                 memo, memo_len, answer, words);
+    return answer_fault(kind, answer, words, memo_len);
+}
+
+uint64_t __wrap_seipolku_look_up(LOOK_UP_ARGUMENTS) {
+    const uint64_t mask = (1 << 20) - 1;
+    if (fault("action cut")) action &= 63;
+    if (fault("code cut")) left_now &= mask, left_next &= mask, right_now &= mask, right_next &= mask;
+    if (fault("root cut")) root = (uint32_t)root;
+    if (fault("next codes swapped")) left_next ^= right_next, right_next ^= left_next, left_next ^= right_next;
+    if (fault("too long a table taken") && level_len == LONGEST + 1 && low_len == level_len && high_len == level_len) level_len--, low_len--, high_len--;
+    if (fault("longest table refused") && level_len == LONGEST) level_len--;
+    if (fault("short high taken")) high_len = level_len;
+    if (fault("table written") && level_len) *(volatile uint8_t *)level = level[0];
+    uint64_t value = __real_seipolku_look_up(level, level_len, low, low_len, high, high_len, root, action, left_now, left_next, right_now, right_next);
+    if (fault("walk ended by 0") && value == 10) return 0;
+    if (fault("10 for 7") && value == 7) return 10;
+    return value;
+}
