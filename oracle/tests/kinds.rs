@@ -4,9 +4,11 @@ use std::collections::BTreeSet;
 
 use oracle::answer::{Answer, Known};
 use oracle::calls::{any_pair, calls, Call, Pair};
+use oracle::lookup::{look_up, Ask};
 use oracle::model::{Channels, Line, Model, Process, TAU};
 use oracle::random::Random;
 use oracle::reader::read;
+use oracle::tables::{any_ask, any_table, Table};
 
 const SEED: u64 = 1;
 const CASES: u64 = 5000;
@@ -131,4 +133,60 @@ fn every_length_comes_up() {
     assert!([0, 1, 2, u64::MAX].iter().all(|limit| limits.contains(limit)));
     // The other limits are products of numbers of states.
     assert!(limits.len() > 20);
+}
+
+/// The edges of a look-up's arguments, each with whether it is due here.
+fn edges(table: &Table, ask: &Ask) -> Vec<(&'static str, bool)> {
+    let length = table.lengths[0] as u64;
+    let has_level = |level: u8| table.entries.iter().any(|(_, entry)| entry.level == level);
+    let child =
+        |to: u64| table.entries.iter().any(|(_, e)| u64::from(e.low) == to || u64::from(e.high) == to);
+    let loops = table.entries.iter().any(|(at, e)| *at > 1 && (e.low == *at as u32 || e.high == *at as u32));
+    let lengths = |of: usize| table.lengths == [of; 3];
+    vec![
+        ("lengths 0", lengths(0)),
+        ("lengths 1", lengths(1)),
+        ("lengths 2", lengths(2)),
+        ("longest", lengths(1 << 20)),
+        ("too long", lengths((1 << 20) + 1)),
+        ("level unequal", table.lengths[0] != table.lengths[1] && table.lengths[1] == table.lengths[2]),
+        ("low unequal", table.lengths[0] != table.lengths[1] && table.lengths[0] == table.lengths[2]),
+        ("high unequal", table.lengths[0] != table.lengths[2] && table.lengths[0] == table.lengths[1]),
+        ("root beyond", ask.root == length),
+        ("root above 32 bits", ask.root >= 1 << 32),
+        ("action 63", ask.action == 63),
+        ("action 64", ask.action == 64),
+        ("action 2^64 - 1", ask.action == u64::MAX),
+        ("last code", ask.codes.contains(&((1 << 20) - 1))),
+        ("first code out of range", ask.codes.contains(&(1 << 20))),
+        ("level 125", has_level(125)),
+        ("level 126", has_level(126)),
+        ("level 254", has_level(254)),
+        ("level 255", has_level(255)),
+        ("child beyond", child(length)),
+        ("child far beyond", child(u32::MAX.into())),
+        ("cycle", loops),
+    ]
+}
+
+#[test]
+fn every_edge_of_a_look_up_comes_up() {
+    let (mut due, mut all, mut far) = (BTreeSet::new(), BTreeSet::new(), BTreeSet::new());
+    for case in 0..1000 {
+        let mut random = Random::of_case(SEED, case);
+        let table = any_table(&mut random);
+        let slices = table.slices();
+        for _ in 0..16 {
+            let ask = any_ask(&mut random, &table);
+            let edges = edges(&table, &ask);
+            all.extend(edges.iter().map(|edge| edge.0));
+            due.extend(edges.iter().filter(|edge| edge.1).map(|edge| edge.0));
+            if table.lengths == [1 << 20; 3] && ask.root > 1 << 19 {
+                far.insert(look_up(&slices, &ask));
+            }
+        }
+    }
+    assert_eq!(due, all);
+    // Walks that start in the second half of the longest table have every answer.
+    assert_eq!(far, [0, 1, 10].into());
 }
