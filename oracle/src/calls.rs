@@ -2,7 +2,7 @@
 
 use crate::answer::{known, mode_of, table_fits, Answer, Known};
 use crate::bisim::Mode;
-use crate::generate::{malformed, pair, text};
+use crate::generate::{chain_pair, malformed, pair, text};
 use crate::random::Random;
 use crate::reader::read;
 
@@ -78,7 +78,11 @@ impl Pair {
 pub fn any_pair(random: &mut Random) -> Pair {
     let mode = random.pick(&[Mode::Strong, Mode::Weak]);
     let budget = random.pick(&[2, 3, 4, 5, 6]);
-    let (left, right) = pair(random, budget);
+    let (left, right) = match random.below(64) {
+        0 => pair(random, 9),
+        1 => chain_pair(random),
+        _ => pair(random, budget),
+    };
     let (mut left, mut right) = (text(&left), text(&right));
     match random.below(24) {
         0 => left = malformed(random),

@@ -202,6 +202,21 @@ pub fn pair(random: &mut Random, budget: u32) -> (Vec<Frame>, Vec<Frame>) {
     }
 }
 
+/// A chain of steps and one that is shorter, closed or the same: verdicts after many rounds.
+pub fn chain_pair(random: &mut Random) -> (Vec<Frame>, Vec<Frame>) {
+    let states = 6 + random.below(20) as u8;
+    let action = random.pick(&[0, 2, 3, 2, 3, 63]);
+    let mut chain: Frame = vec![0, LEAF, states];
+    chain.extend((1..states).flat_map(|to| [to - 1, action, to]));
+    let mut other = chain.clone();
+    match random.below(3) {
+        0 => drop_triple(&mut other),
+        1 => other.extend([states - 1, action, random.below(states.into()) as u8]),
+        _ => shuffle_triples(random, &mut other),
+    }
+    (vec![chain], vec![other])
+}
+
 /// A pair of accepted models with mode, limit and table length.
 pub fn sound_case(random: &mut Random) -> Case {
     let budget = random.pick(&[2, 3, 4, 5, 6]);

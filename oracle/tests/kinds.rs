@@ -98,6 +98,18 @@ fn every_sort_of_model_comes_up() {
     assert_eq!(seen.len(), 13, "{seen:?}");
 }
 
+#[test]
+fn many_rounds_and_large_lists_come_up() {
+    let (mut rounds, mut nodes) = (0, 0);
+    for (pair, _) in pairs() {
+        if let Known::Traced(trace) = &pair.known {
+            rounds = rounds.max(trace.nodes.len());
+            nodes = nodes.max(pair.needed());
+        }
+    }
+    assert!(rounds > 20 && nodes > 100_000, "{rounds} {nodes}");
+}
+
 fn answer_sort(call: &Call, known: &Known) -> String {
     match call.expected(known) {
         None => format!("{} words", call.words),
