@@ -106,7 +106,7 @@ impl<W: Write> Stream<W> {
             let mut random = Random::of_case(seed, number);
             // A length far out of range is as good as one just out of it, and can be lent.
             let length = vector.case.length.min(MAX_TABLE + 1);
-            let work = work(&mut random, length.max(1));
+            let work = work(&mut random, entries(answer, length));
             let (mode, limit) = (vector.case.mode, vector.case.limit);
             self.pair(number, &vector.case.left, &vector.case.right)?;
             self.call(&mut random, &Call { mode, limit, table: [length; 3], work, words: 7 }, Some(answer))?;
@@ -190,6 +190,15 @@ impl<W: Write> Stream<W> {
         self.numbers(&[ASK, ask.root, ask.action])?;
         self.numbers(&ask.codes)?;
         self.number(expected)
+    }
+}
+
+/// At most so many entries of a table of this length are used, and at least one is.
+fn entries(answer: Answer, length: usize) -> usize {
+    match answer {
+        Answer::Equal { nodes, .. } | Answer::Different { nodes, .. } => nodes + 2,
+        Answer::Refused { number: 8 | 9, .. } => length,
+        Answer::Refused { .. } => length.clamp(1, 100),
     }
 }
 
