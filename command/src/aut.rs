@@ -70,7 +70,7 @@ pub fn parse(text: &str) -> Result<Aut, Misplaced> {
     if transitions.len() != announced {
         let found = transitions.len();
         let sentence =
-            format!("the header announces {announced} transitions, and {found} follow; correct the number or add the missing lines.");
+            format!("the header says TRANSITIONS = {announced}, and {found} follow; correct the number or add the missing lines.");
         return misplaced(index + 1, column(line, announced_part(line)), sentence);
     }
     if first >= states {

@@ -1,6 +1,7 @@
 //! Which part of a refused line is wrong: only an explanation, the refusal itself is the library's.
 
 use crate::frames::{bytes, MOST_CHANNEL, MOST_LINES, MOST_STATES};
+use crate::outcome::counted;
 
 /// The first column of the part in the line, its length, and what is wrong with it.
 pub struct Culprit {
@@ -17,7 +18,7 @@ fn culprit(column: usize, length: usize, words: impl Into<String>) -> Option<Cul
 pub fn find(refusal: u64, number: u64, line: &[u8], ended: bool) -> Option<Culprit> {
     match refusal {
         1 => digits(line, ended),
-        2 => culprit(0, line.len(), format!("this line has {} bytes", line.len() / 2)),
+        2 => culprit(0, line.len(), format!("this line has {}", counted(line.len() as u64 / 2, "byte"))),
         3 => line_number(number, line),
         4 => kind(&bytes(line)?),
         5 => range(number, &bytes(line)?),
@@ -61,7 +62,11 @@ fn kind(bytes: &[u8]) -> Option<Culprit> {
         6 => "joint has two operands, then channels",
         _ => return culprit(2, 2, format!("there is no kind {kind:02X}")),
     };
-    culprit(4, (2 * body).max(1), format!("{wants}; here are {body} bytes after the kind"))
+    culprit(
+        4,
+        (2 * body).max(1),
+        format!("{wants}; here are {} after the kind", counted(body as u64, "byte")),
+    )
 }
 
 fn range(number: u64, bytes: &[u8]) -> Option<Culprit> {

@@ -52,8 +52,12 @@ pub fn side(refusal: &Refusal) -> &'static str {
 /// The refusal of a comparison, several lines long.
 pub fn of_comparison(refusal: &Refusal, call: &Call) -> String {
     let head = match refusal.side {
-        Side::Left => format!("Refusal {}, left model, line {}", refusal.fault.number(), refusal.line),
-        Side::Right => format!("Refusal {}, right model, line {}", refusal.fault.number(), refusal.line),
+        Side::Left => {
+            format!("Refusal {}, left model, line {} (counted from 0)", refusal.fault.number(), refusal.line)
+        }
+        Side::Right => {
+            format!("Refusal {}, right model, line {} (counted from 0)", refusal.fault.number(), refusal.line)
+        }
         Side::Neither => format!("Refusal {}, neither model", refusal.fault.number()),
     };
     let detail = match (refusal.side, refusal.fault.number()) {
@@ -90,7 +94,7 @@ pub fn of_text(refusal: &Refusal, file: &Path, text: &[u8]) -> String {
         );
     }
     format!(
-        "{}: refusal {number} at line {}: {}.\n{}What to do: {}.",
+        "{}: refusal {number} at line {} (counted from 0): {}.\n{}What to do: {}.",
         file.display(),
         refusal.line,
         rule(refusal),

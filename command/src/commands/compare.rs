@@ -164,26 +164,25 @@ fn channel_notes(call: &Call) -> Vec<String> {
 }
 
 fn disagreements(left: &Names, right: &Names) -> Vec<String> {
-    let mut notes = Vec::new();
+    let mut found = Vec::new();
     for (number, channel) in &left.channels {
-        let Some(other) = right.channels.get(number).filter(|other| other.name != channel.name) else {
-            continue;
-        };
-        notes.push(format!(
-            "note: channel {number} is '{}' in the left model and '{}' in the right one, and channels are compared by number. If \
-             this is not meant, build both files together, or one with --names and the other's table.",
-            channel.name, other.name
-        ));
-    }
-    for (number, channel) in &left.channels {
-        let moved = right.channels.iter().find(|(n, c)| *n != number && c.name == channel.name);
-        if let Some((other, _)) = moved {
-            notes.push(format!(
-                "note: '{}' is channel {number} in the left model and {other} in the right one, and channels are compared by \
-                 number. If this is not meant, build both files together, or one with --names and the other's table.",
-                channel.name
+        if let Some(other) = right.channels.get(number).filter(|other| other.name != channel.name) {
+            found.push(format!(
+                "{number} is '{}' on the left and '{}' on the right",
+                channel.name, other.name
             ));
         }
+        let moved = right.channels.iter().find(|(n, c)| *n != number && c.name == channel.name);
+        if let Some((other, _)) = moved {
+            found.push(format!("'{}' is {number} on the left and {other} on the right", channel.name));
+        }
     }
-    notes
+    if found.is_empty() {
+        return found;
+    }
+    vec![format!(
+        "note: channels are compared by number, and the name tables disagree: {}. If this is not meant, build both files \
+         together, or one with --names and the other's table.",
+        found.join("; ")
+    )]
 }
