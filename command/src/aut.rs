@@ -23,6 +23,8 @@ pub struct Aut {
     pub first: usize,
     pub states: usize,
     pub transitions: Vec<Transition>,
+    /// Line and column of each transition's label.
+    pub places: Vec<(usize, usize)>,
 }
 
 const HEADER: &str = "an .aut file starts with 'des (FIRST, TRANSITIONS, STATES)', three numbers";
@@ -63,9 +65,11 @@ pub fn parse(text: &str) -> Result<Aut, Misplaced> {
         return misplaced(1, 1, format!("the file is empty; {HEADER}."));
     };
     let (first, announced, states) = header(index + 1, line)?;
-    let mut transitions = Vec::new();
+    let (mut transitions, mut places) = (Vec::new(), Vec::new());
     for (index, line) in lines {
-        transitions.push(transition(index + 1, line, states)?);
+        let (transition, column) = transition(index + 1, line, states)?;
+        transitions.push(transition);
+        places.push((index + 1, column));
     }
     if transitions.len() != announced {
         let found = transitions.len();
@@ -79,7 +83,7 @@ pub fn parse(text: &str) -> Result<Aut, Misplaced> {
         );
         return misplaced(index + 1, 1, sentence);
     }
-    Ok(Aut { first, states, transitions })
+    Ok(Aut { first, states, transitions, places })
 }
 
 fn header(number: usize, line: &str) -> Result<(usize, usize, usize), Misplaced> {
@@ -103,8 +107,8 @@ fn announced_part(line: &str) -> &str {
     line.split(',').nth(1).unwrap_or(line)
 }
 
-/// The label stands between the first and the last comma, so that it may hold commas itself.
-fn transition(number: usize, line: &str, states: usize) -> Result<Transition, Misplaced> {
+/// A transition and its label's column. The label stands between the first and the last comma, so that it may hold commas.
+fn transition(number: usize, line: &str, states: usize) -> Result<(Transition, usize), Misplaced> {
     let inner = line.trim().strip_prefix('(').and_then(|rest| rest.strip_suffix(')'));
     let Some(inner) = inner else {
         return misplaced(number, 1, format!("{TRANSITION}; this line is not in brackets."));
@@ -119,22 +123,18 @@ fn transition(number: usize, line: &str, states: usize) -> Result<Transition, Mi
         );
     };
     let trimmed = label.trim();
-    let unquoted = match trimmed.strip_prefix('"') {
-        None => trimmed,
-        Some(rest) => match rest.strip_suffix('"') {
-            Some(rest) => rest,
-            None => {
-                return misplaced(
-                    number,
-                    column(line, trimmed),
-                    "the label's quote is not closed; end it with a quote.",
-                )
-            }
-        },
+    let place = column(line, trimmed);
+    let quoted = trimmed.strip_prefix('"').map(|rest| rest.strip_suffix('"'));
+    let label = match quoted {
+        Some(None) => {
+            return misplaced(number, place, "the label's quote is not closed; end it with a quote.")
+        }
+        Some(Some(inner)) => Label::parse(inner),
+        None => Label::parse(trimmed),
     };
-    let label =
-        Label::parse(unquoted).map_err(|sentence| Misplaced::new(number, column(line, trimmed), sentence))?;
-    Ok(Transition { from: state(number, line, from, states)?, label, to: state(number, line, to, states)? })
+    let label = label.map_err(|sentence| Misplaced::new(number, place, sentence))?;
+    let (from, to) = (state(number, line, from, states)?, state(number, line, to, states)?);
+    Ok((Transition { from, label, to }, place))
 }
 
 fn state(number: usize, line: &str, part: &str, states: usize) -> Result<usize, Misplaced> {

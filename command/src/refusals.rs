@@ -63,7 +63,7 @@ pub fn of_comparison(refusal: &Refusal, call: &Call) -> String {
     let detail = match (refusal.side, refusal.fault.number()) {
         (Side::Left, _) => shown(refusal, call.files[0], call.texts[0]),
         (Side::Right, _) => shown(refusal, call.files[1], call.texts[1]),
-        (_, 7) => format!("  The table has {} entries.\n", grouped(call.entries)),
+        (_, 7) => format!("  The table's length is {}.\n", grouped(call.entries)),
         (_, 8) => format!(
             "  {} nodes fit into {} entries.\n",
             grouped(call.entries.saturating_sub(2)),

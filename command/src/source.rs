@@ -60,10 +60,19 @@ pub struct Source {
     pub definitions: Vec<Definition>,
 }
 
+/// Where the parts of an .aut file are said to stand.
+#[derive(Clone, Copy, PartialEq, Eq)]
+pub enum Places {
+    /// In the .aut file itself.
+    Own,
+    /// In the file that names it, at the leaf.
+    Leaf,
+}
+
 impl Source {
-    /// Adds a leaf with an .aut file's states and transitions, all at the place of the leaf's name. States are named by
-    /// their numbers; the first state changes places with state 0, since a leaf starts at 0. Repeats are left out.
-    pub fn add_aut(&mut self, name: Named, aut: &Aut) -> Result<(), String> {
+    /// Adds a leaf with an .aut file's states and transitions. States are named by their numbers; the first state changes places
+    /// with state 0, since a leaf starts at 0. Repeats are left out.
+    pub fn add_aut(&mut self, name: Named, aut: &Aut, places: Places) -> Result<(), String> {
         if aut.states > MOST_STATES {
             return Err(format!(
                 "the .aut file has {} states, and a leaf has at most {MOST_STATES}; reduce it (many tools minimise by strong \
@@ -71,35 +80,34 @@ impl Source {
                 aut.states
             ));
         }
-        let at = |word: String| Named { name: word, line: name.line, column: name.column };
         let mut order: Vec<usize> = (0..aut.states).collect();
         order.swap(0, aut.first);
-        let states = order.iter().map(|s| at(s.to_string())).collect();
+        let here = |word: String| Named { name: word, line: name.line, column: name.column };
+        let states = order.iter().map(|s| here(s.to_string())).collect();
         let mut steps = Vec::new();
-        let mut seen = BTreeSet::new();
-        for t in aut.transitions.iter().filter(|t| seen.insert(*t)) {
-            let act = match &t.label {
-                Label::Internal => Act::Tau,
-                Label::Output(a) => Act::Output(at(a.clone())),
-                Label::Input(a) => Act::Input(at(a.clone())),
-                Label::Gate(a) => Act::Gate(at(a.clone())),
-            };
-            self.declare_used(&act);
-            steps.push(Step { from: at(t.from.to_string()), act, to: at(t.to.to_string()) });
+        let (mut seen, mut declared) = (BTreeSet::new(), BTreeSet::new());
+        for (t, place) in aut.transitions.iter().zip(&aut.places).filter(|(t, _)| seen.insert(*t)) {
+            let (line, column) = if places == Places::Own { *place } else { (name.line, name.column) };
+            let at = |word: &str| Named { name: word.to_string(), line, column };
+            let (act, channel) = act(&t.label, at);
+            if let Some((channel, gate)) =
+                channel.filter(|(c, gate)| declared.insert((c.name.clone(), *gate)))
+            {
+                self.channels.push(Declared { channel, gate, number: None });
+            }
+            steps.push(Step { from: at(&t.from.to_string()), act, to: at(&t.to.to_string()) });
         }
         self.definitions.push(Definition { name, body: Body::Leaf { states, steps } });
         Ok(())
     }
+}
 
-    fn declare_used(&mut self, act: &Act) {
-        let (channel, gate) = match act {
-            Act::Tau => return,
-            Act::Output(a) | Act::Input(a) => (a, false),
-            Act::Gate(a) => (a, true),
-        };
-        let known = self.channels.iter().any(|d| d.channel.name == channel.name && d.gate == gate);
-        if !known {
-            self.channels.push(Declared { channel: channel.clone(), gate, number: None });
-        }
+/// A label as an action, and the channel that it uses, as a gate or not.
+fn act(label: &Label, at: impl Fn(&str) -> Named) -> (Act, Option<(Named, bool)>) {
+    match label {
+        Label::Internal => (Act::Tau, None),
+        Label::Output(a) => (Act::Output(at(a)), Some((at(a), false))),
+        Label::Input(a) => (Act::Input(at(a)), Some((at(a), false))),
+        Label::Gate(a) => (Act::Gate(at(a)), Some((at(a), true))),
     }
 }

@@ -3,7 +3,7 @@
 use crate::aut::Aut;
 use crate::frames::MOST_STATES;
 use crate::outcome::{misplaced, Misplaced};
-use crate::source::{Act, Body, Declared, Definition, Named, Source, Step};
+use crate::source::{Act, Body, Declared, Definition, Named, Places, Source, Step};
 use crate::tokens::{tokens, Placed, Token};
 
 type Parsed<T> = Result<T, Misplaced>;
@@ -82,7 +82,9 @@ fn leaf(source: &mut Source, line: &mut Line, open: Open) -> Parsed<()> {
     }
     let file = line.name("the name of an .aut file in quotes")?;
     let aut = open(&file.name).map_err(|sentence| Misplaced::new(file.line, file.column, sentence))?;
-    source.add_aut(name, &aut).map_err(|sentence| Misplaced::new(file.line, file.column, sentence))
+    source
+        .add_aut(name, &aut, Places::Leaf)
+        .map_err(|sentence| Misplaced::new(file.line, file.column, sentence))
 }
 
 /// States and steps of the leaf above.

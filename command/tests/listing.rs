@@ -2,7 +2,7 @@
 
 mod common;
 
-use common::{model, Folder, Random};
+use common::{model, rounds, Folder, Random};
 use seipolku::{Mode, Table};
 
 const LIMIT: u64 = 1_000_000;
@@ -72,7 +72,7 @@ fn printed_steps(out: &str) -> Vec<Step> {
 fn steps_are_all_that_hold() {
     let folder = Folder::new();
     let mut random = Random(20_261_116);
-    for _ in 0..60 {
+    for _ in 0..rounds(60) {
         let text = model(&mut random, 5).text;
         folder.write("model.hex", &text);
         let found = printed_steps(&folder.done(&["steps", "model.hex", "--all"]));
@@ -98,7 +98,7 @@ fn steps_are_all_that_hold() {
 fn pairs_are_all_that_hold() {
     let folder = Folder::new();
     let mut random = Random(7);
-    for _ in 0..40 {
+    for _ in 0..rounds(40) {
         let text = model(&mut random, 4).text;
         folder.write("model.hex", &text);
         let out = folder.done(&["pairs", "model.hex", "model.hex"]);

@@ -5,7 +5,7 @@ use crate::aut;
 use crate::commands::build::{numbering, write_all, Written};
 use crate::files;
 use crate::outcome::{Answer, Failure, Misplaced};
-use crate::source::{Named, Source};
+use crate::source::{Named, Places, Source};
 use std::path::Path;
 
 pub const FORM: Form = Form { command: "from-aut", values: &["--into", "--names"], flags: &[] };
@@ -24,6 +24,8 @@ fn read(file: &Path) -> Result<Source, Failure> {
     let stem: String = files::stem(file).replace(|c: char| c.is_control(), "_");
     let name = Named { name: if stem.is_empty() { "leaf".to_string() } else { stem }, line: 1, column: 1 };
     let mut source = Source::default();
-    source.add_aut(name, &aut).map_err(|sentence| Misplaced::new(1, 1, sentence).within(file))?;
+    source
+        .add_aut(name, &aut, Places::Own)
+        .map_err(|sentence| Misplaced::new(1, 1, sentence).within(file))?;
     Ok(source)
 }

@@ -34,7 +34,13 @@ pub fn run(given: &Given) -> Answer {
             Ok(Outcome { text: words, notes: Vec::new(), status: REFUSED })
         }
         Ok(verdict) => match verdict.largest {
-            Some(root) => list(&table, root, &models, &codes, word(mode)),
+            Some(root) => {
+                let lines = list(&table, root, &models, &codes)?;
+                let kind = if given.flag("--reachable") { " of reachable states" } else { "" };
+                let count = counted(lines.len() as u64, "pair");
+                let head = format!("{} equal, {count}{kind} in the largest bisimulation\n", word(mode));
+                Ok(Outcome::text(head + &lines.concat()))
+            }
             None => {
                 let rounds = counted(verdict.rounds, "round");
                 let text = format!(
@@ -78,18 +84,22 @@ fn within(space: Space, most: u64) -> Vec<u64> {
     space.all_codes()
 }
 
-fn list(table: &Table, root: Root, models: &[Loaded; 2], codes: &[Vec<u64>; 2], mode: &str) -> Answer {
+fn list(
+    table: &Table,
+    root: Root,
+    models: &[Loaded; 2],
+    codes: &[Vec<u64>; 2],
+) -> Result<Vec<String>, Failure> {
     let spaces = [Space::of(&models[0].model), Space::of(&models[1].model)];
     let mut lines = Vec::new();
     for left in &codes[0] {
         for right in &codes[1] {
             if proved::look_up(table, root, 0, [*left, 0, *right, 0])? {
-                let (one, other) =
-                    (spaces[0].words(*left, &models[0].names), spaces[1].words(*right, &models[1].names));
+                let one = spaces[0].words(*left, &models[0].names);
+                let other = spaces[1].words(*right, &models[1].names);
                 lines.push(format!("{one}  ~  {other}\n"));
             }
         }
     }
-    let head = format!("{mode} equal, {} in the largest bisimulation\n", counted(lines.len() as u64, "pair"));
-    Ok(Outcome::text(head + &lines.concat()))
+    Ok(lines)
 }

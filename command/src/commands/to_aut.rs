@@ -13,7 +13,7 @@ pub const FORM: Form = Form { command: "to-aut", values: &["--line", "--most", "
 pub fn run(given: &Given) -> Answer {
     let loaded = load(given.one_file()?)?.up_to(given.number("--line")?)?;
     let listed = reach::reachable(&loaded, given.number("--most")?.unwrap_or(MOST))?;
-    let internal = if given.flag("--tau") { "tau" } else { "i" };
+    let internal = if given.flag("--tau") { "\"tau\"" } else { "i" };
     let text = aut::print(&converted(&loaded, &listed), internal);
     match given.path("--out") {
         None => Ok(Outcome::text(text)),
@@ -35,8 +35,8 @@ fn converted(loaded: &Loaded, listed: &Listed) -> Aut {
             to: numbers[*to],
         })
         .collect();
-    transitions.sort_by_key(|t| t.from);
-    Aut { first: numbers.first().copied().unwrap_or(0), states, transitions }
+    transitions.sort();
+    Aut { first: numbers.first().copied().unwrap_or(0), states, transitions, places: Vec::new() }
 }
 
 fn label(action: u8, names: &Names) -> Label {

@@ -93,6 +93,12 @@ impl Random {
     }
 }
 
+/// How many rounds a test goes: SEIPOLKU_ROUNDS times the usual number.
+pub fn rounds(usual: usize) -> usize {
+    let times = std::env::var("SEIPOLKU_ROUNDS").ok().and_then(|t| t.parse().ok());
+    usual * times.unwrap_or(1usize)
+}
+
 /// A generated model: the text, and the bits of its last line.
 pub struct Generated {
     pub text: String,
