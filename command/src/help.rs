@@ -49,7 +49,7 @@ reachable or not.
 
   --mode strong|weak   Default: weak.
   --reachable          only states that can be reached from the starts.
-  --most N             the most pairs to ask for. Default: 4,000,000.
+  --most N             the most pairs to ask for. Default: 1,000,000.
   --limit N, --nodes N as for compare.
 
 Exit status: 0 equal, 1 different, 2 refused or too large to list.

@@ -1,4 +1,4 @@
-//! Elapsed time on a terminal while a call of the library runs.
+//! Elapsed time on a terminal while calls of the library run.
 
 use std::io::{IsTerminal, Write};
 use std::sync::mpsc;

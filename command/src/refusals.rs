@@ -35,7 +35,7 @@ fn what_to_do(refusal: &Refusal) -> &'static str {
         3 => "number the lines from 00 upward and use at most 64, or write the model in the readable form and run 'seipolku build'",
         6 => "use fewer or smaller leaves in this line; n states take as many bits as n - 1 has",
         7 => "give --nodes a number from 2 to 1,048,576",
-        8 => "give a larger table with --nodes N if it is below 1,048,576; else make the models smaller, with fewer states or fewer leaves",
+        8 => "give a larger table with --nodes N, at most 1,048,576, or make the models smaller, with fewer states or fewer leaves",
         9 => "give a larger limit with --limit N",
         _ => "report this with the models",
     }

@@ -216,3 +216,48 @@ fn models_as_aut() {
     }
     assert!(leaves > 20, "{leaves}");
 }
+
+/// A line of a picture with its strings taken out; every string must be closed.
+fn without_strings(line: &str) -> String {
+    let mut rest = String::new();
+    let mut letters = line.chars();
+    while let Some(c) = letters.next() {
+        if c != '"' {
+            rest.push(c);
+            continue;
+        }
+        loop {
+            match letters.next() {
+                Some('\\') => drop(letters.next()),
+                Some('"') => break,
+                Some(_) => {}
+                None => panic!("an open string: {line}"),
+            }
+        }
+        rest.push('$');
+    }
+    rest
+}
+
+/// Whatever the names, a picture has a line for each state and one for each arrow.
+#[test]
+fn pictures() {
+    let folder = Folder::new();
+    let mut random = Random(31);
+    for _ in 0..rounds(40) {
+        let text = model(&mut random, 5).text;
+        folder.write("one.hex", &text);
+        folder.write("one.names", names(&mut random, &text));
+        let picture = folder.done(&["show", "one.hex", "--dot"]);
+        let lines: Vec<String> = picture.lines().map(without_strings).collect();
+        assert_eq!(lines.first().map(String::as_str), Some("digraph $ {"));
+        assert_eq!(lines.last().map(String::as_str), Some("}"));
+        let states =
+            lines.iter().filter(|l| l.starts_with("  s") && l.ends_with(" [label=$];") && !l.contains("->"));
+        let arrow = |l: &&String| {
+            l.contains("->") && (l.ends_with(" [label=$];") || l.ends_with(" [label=$, style=dashed];"))
+        };
+        let arrows = lines.iter().filter(arrow).count();
+        assert_eq!(lines.len(), states.count() + arrows + 6, "{picture}");
+    }
+}

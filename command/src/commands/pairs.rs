@@ -15,7 +15,7 @@ pub const FORM: Form =
     Form { command: "pairs", values: &["--mode", "--limit", "--nodes", "--most"], flags: &["--reachable"] };
 
 /// How many pairs are asked for unless --most says otherwise.
-const MOST_ASKED: u64 = 4_000_000;
+const MOST_ASKED: u64 = 1_000_000;
 
 pub fn run(given: &Given) -> Answer {
     let files = given.two_files()?;
