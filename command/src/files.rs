@@ -8,6 +8,9 @@ use std::path::{Path, PathBuf};
 /// More than any model in any of the forms needs; a model text has at most 32,704 bytes.
 const MOST_BYTES: u64 = 1 << 20;
 
+/// The byte order mark.
+const MARK: &[u8] = "\u{feff}".as_bytes();
+
 pub fn read(path: &Path) -> Result<Vec<u8>, Failure> {
     let mut bytes = Vec::new();
     let read = File::open(path).and_then(|file| file.take(MOST_BYTES + 1).read_to_end(&mut bytes));
@@ -26,9 +29,12 @@ pub fn read(path: &Path) -> Result<Vec<u8>, Failure> {
     Ok(bytes)
 }
 
-/// A file of UTF-8 text.
+/// A file of UTF-8 text, without the mark that some editors put before it.
 pub fn read_text(path: &Path) -> Result<String, Failure> {
-    let bytes = read(path)?;
+    let mut bytes = read(path)?;
+    if bytes.starts_with(MARK) {
+        bytes.drain(..MARK.len());
+    }
     String::from_utf8(bytes).map_err(|error| {
         let good =
             String::from_utf8_lossy(&error.as_bytes()[..error.utf8_error().valid_up_to()]).into_owned();

@@ -44,6 +44,22 @@ fn readable_form() {
 }
 
 #[test]
+fn marks_and_line_ends() {
+    let folder = Folder::new();
+    folder.write("m.model", "\u{feff}leaf a\r\n  states s\r\n");
+    folder.write("n.aut", "\u{feff}des (0,0,1)\r\n\r\n");
+    folder.done(&["build", "m.model"]);
+    folder.done(&["from-aut", "n.aut"]);
+    assert_eq!(
+        (folder.read("m.hex"), folder.read("n.hex")),
+        ("000101\n".to_string(), "000101\n".to_string())
+    );
+    folder.write("latin.model", b"leaf a\n  states caf\xe9\n");
+    let ran = folder.run(&["build", "latin.model"]);
+    assert!(ran.err.contains("latin.model, line 2, column 13: this byte is not UTF-8"), "{}", ran.err);
+}
+
+#[test]
 fn sizes() {
     let says = |text: &str, expected: &str| says("m.model", text, &["build", "m.model"], expected);
     let chain: String = (0..65).map(|n| format!("  s{n} -- tau --> s{}\n", n + 1)).collect();
@@ -124,7 +140,8 @@ fn words() {
     fails(&["compare", "a.hex", "a.hex", "--limit", "-1"], "--limit takes a whole number");
     fails(&["build", "a.model", "--into", "nowhere"], "nowhere/a.hex can't be written");
     fails(&["build", "a.model", "--out", "b.hex"], "--out names the file of 'build --text'");
-    fails(&["build", "a.hex"], "line 1, column 1");
+    fails(&["build", "a.hex"], "'seipolku build --text a.hex'");
+    fails(&["build", "a.aut"], "'seipolku from-aut a.aut'");
     fails(&["show", "-odd.hex"], "show has no option -odd.hex");
     fails(&["from-aut"], "from-aut takes one file or more");
     folder.done(&["show", "--", "-odd.hex"]);

@@ -35,11 +35,22 @@ pub fn run(given: &Given) -> Answer {
     }
     let mut sources = Vec::new();
     for file in given.some_files()? {
+        readable_form(file)?;
         let open = |name: &str| open_aut(file, name);
         let source = syntax::parse(&files::read_text(file)?, &open).map_err(|wrong| wrong.within(file))?;
         sources.push(Written { file: file.clone(), source });
     }
     write_all(&sources, numbering(given)?, given.path("--into"))
+}
+
+/// Files in the other forms are told by their endings.
+fn readable_form(file: &Path) -> Result<(), Failure> {
+    let name = file.display();
+    match file.extension().and_then(|e| e.to_str()) {
+        Some("hex") => fail(format!("{name} is a model text by its ending; 'seipolku build --text {name}' writes it in the readable form.")),
+        Some("aut") => fail(format!("{name} is an .aut file by its ending; 'seipolku from-aut {name}' makes a model text of it.")),
+        _ => Ok(()),
+    }
 }
 
 /// An .aut file beside the one that names it.
