@@ -21,7 +21,8 @@ fn names(random: &mut Random, text: &str) -> String {
     let mut table = String::new();
     let mut unused: Vec<&str> = NAMES.to_vec();
     for number in 1..=31 {
-        if random.below(3) == 0 && !unused.is_empty() {
+        let often = matches!(number, 1..=3 | 31);
+        if random.below(if often { 2 } else { 8 }) == 0 && !unused.is_empty() {
             let name = unused.remove(random.below(unused.len()));
             table += &format!("{} {number} {}\n", random.pick(&["channel", "gate"]), spelled(name));
         }
