@@ -55,7 +55,7 @@ pub fn word(mode: Mode) -> &'static str {
     }
 }
 
-/// The modes that --mode names; one that stands for both if several are allowed.
+/// The modes that --mode names; `both` only where that is the default.
 pub fn modes(given: &Given, default: &[Mode]) -> Result<Vec<Mode>, Failure> {
     let Some(value) = given.value("--mode") else { return Ok(default.to_vec()) };
     match value.to_str() {
