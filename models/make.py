@@ -23,8 +23,9 @@ pairs = []    # (left, right, strong verdict, weak verdict)
 class Family:
     """A group of models with one numbering of channels."""
 
-    def __init__(self, title):
+    def __init__(self, title, gates=False):
         self.title = title
+        self.gates = gates    # all actions are outputs, written without a direction
         self.numbers = {}
         names.append(f"\n## {title}\n")
 
@@ -51,6 +52,7 @@ class Model:
         self.family = family
         self.frames = []
         self.comments = []
+        self.named = []    # processes and states, as a .names file has them
 
     def add(self, body, comment):
         self.frames.append([len(self.frames)] + body)
@@ -67,6 +69,8 @@ class Model:
         body = [1, len(states)]
         for source, word, target in steps:
             body += [states.index(source), self.family.action(word), states.index(target)]
+        self.named.append(f"process {len(self.frames)} {spelled(name)}")
+        self.named += [f"state {len(self.frames)} {i} {spelled(s)}" for i, s in enumerate(states)]
         return self.add(body, f"leaf {name}: " + ", ".join(f"{i} {s}" for i, s in enumerate(states)))
 
     def compose(self, *lines):
@@ -101,10 +105,27 @@ class Model:
         with open(os.path.join(HERE, name + ".hex"), "w", newline="") as file:
             for frame in self.frames:
                 file.write("".join(f"{byte:02X}" for byte in frame) + "\n")
+        write(name + ".names", [f"# The names of the numbers in {name}.hex."] + self.channels() + self.named)
         names.append(f"`{name}.hex`")
         names.extend(f"- {i}: {comment}" for i, comment in enumerate(self.comments))
         names.append("")
         return name
+
+    def channels(self):
+        """The channels that the frames name, as a .names file has them."""
+        used = set()
+        for _, kind, *operands in self.frames:
+            if kind == 1:
+                used.update(action // 2 for action in operands[2::3])
+            else:
+                used.update(operands[2 if kind in (2, 6) else 1:])
+        head = "gate" if self.family.gates else "channel"
+        return [f"{head} {n} {spelled(c)}" for c, n in self.family.numbers.items() if n in used]
+
+
+def spelled(name):
+    """In quotes where the readable form of the command `seipolku` wants them."""
+    return name if all(c.isalnum() or c in "_.'" for c in name) else f'"{name}"'
 
 
 def pair(left, right, strong, weak):
@@ -348,7 +369,7 @@ def gas_station():
 # Parts of the LOTOS transport handler, source document 000, figure 2. All actions are outputs.
 
 def transport_handler():
-    family = Family("LOTOS transport handler")
+    family = Family("LOTOS transport handler", gates=True)
 
     def connect(end, inner=True):
         steps = [("conn", "CInd!", "called"), ("calling", "CReq!", "requested"),

@@ -1,0 +1,185 @@
+//! What --help says.
+
+pub const GENERAL: &str = "\
+seipolku: whether two models of a system behave the same, by strong and by weak bisimilarity.
+All answers about models come from a library whose code is proved.
+
+  seipolku compare LEFT RIGHT    verdict, rounds, nodes and time
+  seipolku pairs LEFT RIGHT      the largest bisimulation, pair by pair
+  seipolku steps MODEL           the steps of a model, state by state
+  seipolku show MODEL            a model in words and as an expression, or as a picture
+  seipolku check MODEL           whether a model text is accepted
+  seipolku from-aut FILE..       Aldebaran files (.aut) to model texts
+  seipolku to-aut MODEL          the reachable part of a model as an .aut file
+  seipolku build FILE..          the readable form to model texts, and back
+
+'seipolku COMMAND --help' says more and gives examples. MODEL, LEFT and RIGHT are model texts (.hex); names of channels, processes and
+states are read from the file of the same name with the ending .names, if there is one. docs/TUTORIAL.md is a first walk.
+
+Exit status: 0 done, or the models are equal; 1 they are different; 2 refused, or the command could not be carried out.
+";
+
+const COMPARE: &str = "\
+seipolku compare LEFT RIGHT [--mode strong|weak|both] [--limit N] [--nodes N] [--quiet] [--json]
+
+Compares two model texts and prints a line for each mode: verdict, rounds, nodes, time. A refusal is explained below the lines, with its
+number, side and line, the line itself and what to do.
+
+  --mode strong|weak|both   strong: a step is answered by one step. weak: internal steps are not counted. Default: both.
+  --limit N                 the most rounds. Default: 1,000,000.
+  --nodes N                 the table's length, 2 to 1,048,576 entries, of which N - 2 hold nodes. Default: 1,048,576.
+  --quiet                   print no verdict: the exit status says it. Refusals go to standard error.
+  --json                    print one JSON object.
+
+Channels are compared by number. Where both models have a name table and these disagree, a note says so.
+On a terminal the elapsed time is shown while a comparison runs.
+Exit status: 0 equal, 1 different, 2 refused; of two modes the worse.
+
+Examples:
+  seipolku compare models/shuttle_one_faulty.hex models/shuttle_one_service.hex
+  seipolku compare models/shuttle_one.hex models/shuttle_one_service.hex --mode weak --quiet && echo bought
+  seipolku compare models/abp.hex models/abp_service.hex --json
+";
+
+const PAIRS: &str = "\
+seipolku pairs LEFT RIGHT [--mode strong|weak] [--reachable] [--most N] [--limit N] [--nodes N]
+
+After 'equal', lists every pair of the largest bisimulation between the two models' states, each state leaf by leaf. All states count,
+reachable or not.
+
+  --mode strong|weak   Default: weak.
+  --reachable          only states that can be reached from the starts.
+  --most N             the most pairs to ask for. Default: 1,000,000.
+  --limit N, --nodes N as for compare.
+
+Exit status: 0 equal, 1 different, 2 refused or too large to list.
+
+Examples:
+  seipolku pairs models/shuttle_one.hex models/shuttle_one_service.hex
+  seipolku pairs models/buffer_bag2.hex models/buffer_places2.hex --mode strong
+";
+
+const STEPS: &str = "\
+seipolku steps MODEL [--all] [--line K] [--most N]
+
+Lists the states that can be reached from the start and their steps, which the operators' rules give: '-- in a -->' is an input and
+'-- out a -->' an output on channel a, '-- tau -->' an internal step.
+
+  --all      every state, reachable or not.
+  --line K   the process of line K in place of the last one.
+  --most N   the most states. Default: 1,000. A larger model is not listed at all.
+
+Examples:
+  seipolku steps models/shuttle_one.hex
+  seipolku steps models/shuttle_one.hex --line 0 --all
+";
+
+const SHOW: &str = "\
+seipolku show MODEL [--line K] [--dot [--most N]]
+
+Prints a model line by line in words, and as an expression: P | Q compose, P \\ {a} restrict, P[b/a] relabel (a becomes b),
+hide a in P, P |[a]| Q joint.
+
+  --line K   the model up to line K.
+  --dot      a picture for Graphviz: of the reachable part of the model, or of a leaf with all its states if the last line is one.
+             Outputs are written a!, inputs a?; internal steps are dashed.
+  --most N   the most states in a picture. Default: 1,000.
+
+Examples:
+  seipolku show models/shuttle_one.hex
+  seipolku show models/shuttle_one.hex --dot | dot -Tsvg > shuttle_one.svg
+  seipolku show models/shuttle_one.hex --dot --line 0 | dot -Tsvg > journal.svg
+";
+
+const CHECK: &str = "\
+seipolku check MODEL
+
+Says whether the library accepts a model text: then its lines, leaf uses, bits and states, else the refusal in words with the line.
+Exit status: 0 accepted, 2 refused.
+
+Example:
+  seipolku check models/shuttle_one.hex
+";
+
+const FROM_AUT: &str = "\
+seipolku from-aut FILE.. [--into FOLDER] [--names TABLE]
+
+Turns each Aldebaran file X.aut into a model text X.hex of one leaf, and a table of names X.names, both written over if they are there.
+All files given together get one numbering of channels, so that they can be compared.
+
+Labels, with or without quotes: i or tau is an internal step; NAME! or !NAME an output, NAME? or ?NAME an input; NAME alone is a gate,
+that is, an output that is written back without the mark. A first state other than 0 changes places with state 0. A leaf has at most 64
+states and 84 transitions.
+
+  --into FOLDER   write the files there, not beside the .aut files.
+  --names TABLE   take channel numbers from this table of names first.
+
+Examples:
+  seipolku from-aut examples/journal_faulty.aut examples/service.aut
+  seipolku from-aut examples/journal_flushed.aut --names examples/service.names
+";
+
+const TO_AUT: &str = "\
+seipolku to-aut MODEL [--line K] [--most N] [--tau] [--out FILE]
+
+Writes the part of a model that can be reached from its start as an Aldebaran file, with the names of its table. The states of a model of
+one leaf that came from an .aut file get their old numbers back.
+
+  --line K    the process of line K in place of the last one.
+  --most N    the most states. Default: 1,000.
+  --tau       write internal steps as tau in place of i.
+  --out FILE  write to a file, not to standard output.
+
+Examples:
+  seipolku to-aut models/shuttle_one.hex
+  seipolku to-aut models/scheduler4.hex --out scheduler4.aut
+";
+
+const BUILD: &str = "\
+seipolku build FILE.. [--into FOLDER] [--names TABLE]
+seipolku build --text MODEL [--out FILE]
+
+Turns each file X.model of the readable form into a model text X.hex and a table of names X.names, both written over if they are there.
+With --text it goes back: the readable form of a model text with its names. Back and forth gives the same text and the same names.
+
+  # A remark. A name of other characters than letters, digits, _ . ' stands in quotes.
+  channels move, done, drop, up          numbers 1, 2, .. in this order, or one's own: channels drop = 7
+  gates put, get                         channels whose outputs are written without 'out'
+
+  leaf journal                           or: leaf journal from \"journal.aut\"
+    states empty, pending                the first one is the start; without this line, as the steps name them
+    empty -- in move --> pending
+    pending -- out done --> empty
+    pending -- tau --> empty
+
+  both = compose journal supply          either side alone, or an output and an input together as tau; three or more from the left
+  closed = restrict both on drop, up     no steps on these channels
+  other = relabel cell move to log, done to go   one after the other
+  quiet = hide both on drop              steps on these channels become tau
+  model = joint one other on put, get    on these channels both take the same step together
+
+The last definition is the model. Files given together get one numbering of channels.
+
+  --into FOLDER   write the files there, not beside the given ones.
+  --names TABLE   take channel numbers from this table of names first.
+  --out FILE      write the readable form to a file, not to standard output.
+
+Examples:
+  seipolku build examples/shuttle_faulty.model examples/shuttle_flushed.model
+  seipolku build --text models/shuttle_one.hex
+";
+
+/// The help of a subcommand, or the general one.
+pub fn of(command: &str) -> &'static str {
+    match command {
+        "compare" => COMPARE,
+        "pairs" => PAIRS,
+        "steps" => STEPS,
+        "show" => SHOW,
+        "check" => CHECK,
+        "from-aut" => FROM_AUT,
+        "to-aut" => TO_AUT,
+        "build" => BUILD,
+        _ => GENERAL,
+    }
+}

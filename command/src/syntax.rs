@@ -1,0 +1,284 @@
+//! Parsing the readable form, one line at a time.
+
+use crate::aut::Aut;
+use crate::frames::MOST_STATES;
+use crate::outcome::{misplaced, Misplaced};
+use crate::source::{Act, Body, Declared, Definition, Named, Places, Source, Step};
+use crate::tokens::{tokens, Placed, Token};
+
+type Parsed<T> = Result<T, Misplaced>;
+
+/// Opens an .aut file that a leaf is taken from.
+pub type Open<'a> = &'a dyn Fn(&str) -> Result<Aut, String>;
+
+const LINES: &str = "a line is 'channels ..', 'gates ..', 'leaf NAME', 'states ..', a step 'STATE -- out CHANNEL --> STATE', \
+                     or 'NAME = OPERATOR ..'";
+
+pub fn parse(text: &str, open: Open) -> Parsed<Source> {
+    let mut source = Source::default();
+    for (index, line) in text.lines().enumerate() {
+        let words = tokens(index + 1, line)?;
+        if !words.is_empty() {
+            parse_line(&mut source, &mut Line { number: index + 1, words, next: 0 }, open)?;
+        }
+    }
+    if source.definitions.is_empty() {
+        let last = text.lines().count().max(1);
+        return misplaced(last, 1, "the file defines no process; add a 'leaf NAME' with its steps.");
+    }
+    Ok(source)
+}
+
+fn parse_line(source: &mut Source, line: &mut Line, open: Open) -> Parsed<()> {
+    let second = |mark: &str| line.words.get(1).is_some_and(|w| w.is(mark));
+    if second("=") {
+        source.definitions.push(definition(line)?);
+    } else if second("--") || second("-->") {
+        step(source, line)?;
+    } else if line.skip("channels") {
+        declarations(source, line, false)?;
+    } else if line.skip("gates") {
+        declarations(source, line, true)?;
+    } else if line.skip("leaf") {
+        leaf(source, line, open)?;
+    } else if line.skip("states") {
+        states(source, line)?;
+    } else {
+        return line.wrong(&format!("{LINES}; write one of these."));
+    }
+    line.end()
+}
+
+fn declarations(source: &mut Source, line: &mut Line, gate: bool) -> Parsed<()> {
+    loop {
+        let channel = line.name("the name of a channel")?;
+        let number = if line.skip("=") { Some(channel_number(line)?) } else { None };
+        source.channels.push(Declared { channel, gate, number });
+        line.skip(",");
+        if line.at_end() {
+            return Ok(());
+        }
+    }
+}
+
+fn channel_number(line: &mut Line) -> Parsed<u8> {
+    let found = line.peek().and_then(Placed::name).and_then(|w| w.parse::<u8>().ok());
+    match found.filter(|n| (1..=31).contains(n)) {
+        Some(number) => {
+            line.next += 1;
+            Ok(number)
+        }
+        None => line.wrong("a channel's number from 1 to 31 is due here; write one, or leave out the '='."),
+    }
+}
+
+fn leaf(source: &mut Source, line: &mut Line, open: Open) -> Parsed<()> {
+    let name = line.name("the leaf's name")?;
+    if !line.skip("from") {
+        source
+            .definitions
+            .push(Definition { name, body: Body::Leaf { states: Vec::new(), steps: Vec::new() } });
+        return Ok(());
+    }
+    let file = line.name("the name of an .aut file in quotes")?;
+    let aut = open(&file.name).map_err(|sentence| Misplaced::new(file.line, file.column, sentence))?;
+    source
+        .add_aut(name, &aut, Places::Leaf)
+        .map_err(|sentence| Misplaced::new(file.line, file.column, sentence))
+}
+
+/// States and steps of the leaf above.
+fn open_leaf<'a>(source: &'a mut Source, line: &Line) -> Parsed<(&'a mut Vec<Named>, &'a mut Vec<Step>)> {
+    match source.definitions.last_mut() {
+        Some(Definition { body: Body::Leaf { states, steps }, .. }) => Ok((states, steps)),
+        _ => misplaced(
+            line.number,
+            line.column(0),
+            "states and steps belong below a 'leaf NAME' line; write one above.",
+        ),
+    }
+}
+
+fn states(source: &mut Source, line: &mut Line) -> Parsed<()> {
+    let (states, _) = open_leaf(source, line)?;
+    loop {
+        let state = line.name("the name of a state")?;
+        if states.len() >= MOST_STATES {
+            let sentence = format!("a leaf has at most {MOST_STATES} states; reduce it, or split it into leaves that are composed.");
+            return misplaced(state.line, state.column, sentence);
+        }
+        if states.iter().any(|s| s.name == state.name) {
+            return misplaced(
+                state.line,
+                state.column,
+                format!("the state '{}' stands here twice; name it once.", state.name),
+            );
+        }
+        states.push(state);
+        line.skip(",");
+        if line.at_end() {
+            return Ok(());
+        }
+    }
+}
+
+fn step(source: &mut Source, line: &mut Line) -> Parsed<()> {
+    let (_, steps) = open_leaf(source, line)?;
+    let from = line.name("the state that the step leaves")?;
+    line.mark("--")?;
+    let act = act(line)?;
+    line.mark("-->")?;
+    let to = line.name("the state that the step leads to")?;
+    steps.push(Step { from, act, to });
+    Ok(())
+}
+
+/// `tau`, `out CHANNEL`, `in CHANNEL`, or a gate alone.
+fn act(line: &mut Line) -> Parsed<Act> {
+    let alone = line.words.get(line.next + 1).is_some_and(|w| matches!(w.token, Token::Mark(_)));
+    if alone && line.skip("tau") {
+        return Ok(Act::Tau);
+    }
+    if alone {
+        return Ok(Act::Gate(line.name("an action: tau, out CHANNEL, in CHANNEL or a gate's name")?));
+    }
+    if line.skip("out") {
+        return Ok(Act::Output(line.name("the channel of the output")?));
+    }
+    if line.skip("in") {
+        return Ok(Act::Input(line.name("the channel of the input")?));
+    }
+    line.wrong("an action is tau, out CHANNEL, in CHANNEL or a gate's name alone; write one of these.")
+}
+
+fn definition(line: &mut Line) -> Parsed<Definition> {
+    let name = line.name("the name of the process")?;
+    line.mark("=")?;
+    let body = if line.skip("compose") {
+        compose(line)?
+    } else if line.skip("restrict") {
+        Body::Restrict(line.process()?, line.channels()?)
+    } else if line.skip("hide") {
+        Body::Hide(line.process()?, line.channels()?)
+    } else if line.skip("joint") {
+        Body::Joint(line.process()?, line.process()?, line.channels()?)
+    } else if line.skip("relabel") {
+        Body::Relabel(line.process()?, relabelling(line)?)
+    } else {
+        return line.wrong(
+            "the operators are compose, restrict, relabel, hide and joint; write one of these after '='.",
+        );
+    };
+    Ok(Definition { name, body })
+}
+
+fn compose(line: &mut Line) -> Parsed<Body> {
+    let mut operands = vec![line.process()?, line.process()?];
+    while !line.at_end() {
+        operands.push(line.process()?);
+    }
+    Ok(Body::Compose(operands))
+}
+
+fn relabelling(line: &mut Line) -> Parsed<Vec<(Named, Named)>> {
+    let mut changes = Vec::new();
+    loop {
+        let old = line.name("a channel, as in 'relabel P OLD to NEW'")?;
+        line.mark("to")?;
+        changes.push((old, line.name("the channel's new name")?));
+        line.skip(",");
+        if line.at_end() {
+            return Ok(changes);
+        }
+    }
+}
+
+/// A line's tokens and the place of the next one.
+struct Line {
+    number: usize,
+    words: Vec<Placed>,
+    next: usize,
+}
+
+impl Line {
+    fn peek(&self) -> Option<&Placed> {
+        self.words.get(self.next)
+    }
+
+    fn at_end(&self) -> bool {
+        self.next >= self.words.len()
+    }
+
+    /// The column of a token, or the one behind the last.
+    fn column(&self, index: usize) -> usize {
+        match (self.words.get(index), self.words.last()) {
+            (Some(word), _) => word.column,
+            (None, Some(last)) => last.column + width(&last.token),
+            (None, None) => 1,
+        }
+    }
+
+    fn wrong<T>(&self, sentence: &str) -> Parsed<T> {
+        misplaced(self.number, self.column(self.next), sentence)
+    }
+
+    /// Steps over a keyword or mark if it stands here.
+    fn skip(&mut self, word: &str) -> bool {
+        let here = self.peek().is_some_and(|w| w.is(word));
+        self.next += usize::from(here);
+        here
+    }
+
+    fn mark(&mut self, word: &str) -> Parsed<()> {
+        if self.skip(word) {
+            return Ok(());
+        }
+        self.wrong(&format!("'{word}' is due here; write it."))
+    }
+
+    fn name(&mut self, what: &str) -> Parsed<Named> {
+        let Some(name) = self.peek().and_then(Placed::name).map(str::to_string) else {
+            return self.wrong(&format!("{what} is due here; write it."));
+        };
+        let named = Named { name, line: self.number, column: self.column(self.next) };
+        self.next += 1;
+        Ok(named)
+    }
+
+    fn process(&mut self) -> Parsed<Named> {
+        let named = self.name("the name of a process");
+        self.skip(",");
+        named
+    }
+
+    /// `on` and channels; nothing for an empty list.
+    fn channels(&mut self) -> Parsed<Vec<Named>> {
+        let mut channels = Vec::new();
+        if self.at_end() {
+            return Ok(channels);
+        }
+        self.mark("on")?;
+        loop {
+            channels.push(self.name("a channel after 'on' (leave out 'on' for an empty list)")?);
+            self.skip(",");
+            if self.at_end() {
+                return Ok(channels);
+            }
+        }
+    }
+
+    fn end(&self) -> Parsed<()> {
+        if self.at_end() {
+            return Ok(());
+        }
+        self.wrong("the line is complete before this word; remove the rest, or start a new line with it.")
+    }
+}
+
+fn width(token: &Token) -> usize {
+    match token {
+        Token::Word(word) => word.chars().count(),
+        Token::Quoted(word) => word.chars().count() + 2,
+        Token::Mark(mark) => mark.len(),
+    }
+}

@@ -1,0 +1,55 @@
+//! How names and actions are written.
+
+use crate::names::Names;
+
+/// A character of a name that needs no quotes.
+pub fn plain(c: char) -> bool {
+    c.is_alphanumeric() || c == '_' || c == '.' || c == '\''
+}
+
+/// The name as it is, or in quotes where it has other characters.
+pub fn spelled(name: &str) -> String {
+    if !name.is_empty() && name.chars().all(plain) {
+        name.to_string()
+    } else {
+        quoted(name)
+    }
+}
+
+pub fn quoted(name: &str) -> String {
+    format!("\"{}\"", name.replace('\\', "\\\\").replace('"', "\\\""))
+}
+
+/// An action in the readable form: `tau`, `out a`, `in a`, or a gate's name alone.
+pub fn action(number: u8, names: &Names) -> String {
+    if number == 0 {
+        return "tau".to_string();
+    }
+    let channel = number / 2;
+    let name = names.channel(channel);
+    let written = spelled(&name);
+    match (number % 2, names.is_gate(channel)) {
+        (0, true) if name == "tau" => quoted(&name),
+        (0, true) => written,
+        (0, false) => format!("out {written}"),
+        _ => format!("in {written}"),
+    }
+}
+
+/// An action in short: `tau`, `a!`, `a?`, or a gate's name alone.
+pub fn short_action(number: u8, names: &Names) -> String {
+    if number == 0 {
+        return "tau".to_string();
+    }
+    let name = names.channel(number / 2);
+    match (number % 2, names.is_gate(number / 2)) {
+        (0, true) => name,
+        (0, false) => format!("{name}!"),
+        _ => format!("{name}?"),
+    }
+}
+
+/// Names of channels with commas.
+pub fn channel_list(channels: &[u8], names: &Names) -> String {
+    channels.iter().map(|c| spelled(&names.channel(*c))).collect::<Vec<_>>().join(", ")
+}

@@ -1,0 +1,149 @@
+//! Mistakes in files and words: the sentence names file, line and column.
+
+mod common;
+
+use common::Folder;
+
+fn says(name: &str, text: &str, words: &[&str], expected: &str) {
+    let folder = Folder::new();
+    folder.write(name, text);
+    let ran = folder.run(words);
+    assert_eq!(ran.status, 2, "{text}");
+    assert!(ran.err.contains(expected), "{text}\nsaid: {}\nnot: {expected}", ran.err);
+}
+
+#[test]
+fn readable_form() {
+    let says = |text: &str, expected: &str| {
+        says("m.model", text, &["build", "m.model"], &format!("m.model, {expected}"))
+    };
+    says("", "line 1, column 1: the file defines no process");
+    says("leaf a\n", "line 1, column 6: this leaf has no state");
+    says("channels\n", "line 1, column 9: the name of a channel is due");
+    says("channels a = 32\n", "line 1, column 14: a channel's number from 1 to 31");
+    says("channels a = 3, b = 3\nleaf x\n states s\n", "line 1, column 17: channel 3 is 'a' already");
+    says("gates a\nchannels a\nleaf x\n states s\n", "line 2, column 10: 'a' stands with a direction");
+    says("s -- tau --> t\n", "line 1, column 1: states and steps belong below a 'leaf NAME' line");
+    says("leaf a\n  s -- out b --> t\n", "line 2, column 12: 'b' is not declared");
+    says("channels b\nleaf a\n  s -- b --> t\n", "line 3, column 8: 'b' is a channel; write 'out' or 'in'");
+    says("leaf a\n  states s\n  s -- tau --> t\n", "line 3, column 16: 't' is no state of the leaf 'a'");
+    says("leaf a\n  states s, s\n", "line 2, column 13: the state 's' stands here twice");
+    says("leaf a\n  s -- tau -> t\n", "line 2, column 12: '-' has no meaning here");
+    says("leaf a\n  s -- tau t\n", "line 2, column 8: an action is tau");
+    says("leaf a\n  s -- tau --> \"t\n", "line 2, column 16: this quote is not closed");
+    says("leaf a\n  states s\nb = compose a\n", "line 3, column 14: the name of a process is due");
+    says("leaf a\n  states s\nb = compose a c\n", "line 3, column 15: there is no process 'c' above");
+    says("leaf a\n  states s\nb = mix a a\n", "line 3, column 5: the operators are");
+    says("leaf a\n  states s\na = compose a a\n", "line 3, column 1: there is a process 'a' above already");
+    says("leaf a\n  states s\nb = hide a on\n", "line 3, column 14: a channel after 'on'");
+    says("leaf a\n  states s\nb = hide a c\n", "line 3, column 12: 'on' is due here");
+    says("channels x\nleaf a\n  states s\nb = relabel a x x\n", "line 4, column 17: 'to' is due here");
+    says("leaf a\n  states s extra\nleaf b c\n", "line 3, column 8: the line is complete");
+    says("what is this\n", "line 1, column 1: a line is");
+    says("leaf a from \"b.aut\"\n", "line 1, column 13: b.aut can't be read");
+}
+
+#[test]
+fn marks_and_line_ends() {
+    let folder = Folder::new();
+    folder.write("m.model", "\u{feff}leaf a\r\n  states s\r\n");
+    folder.write("n.aut", "\u{feff}des (0,0,1)\r\n\r\n");
+    folder.done(&["build", "m.model"]);
+    folder.done(&["from-aut", "n.aut"]);
+    assert_eq!(
+        (folder.read("m.hex"), folder.read("n.hex")),
+        ("000101\n".to_string(), "000101\n".to_string())
+    );
+    folder.write("latin.model", b"leaf a\n  states caf\xe9\n");
+    let ran = folder.run(&["build", "latin.model"]);
+    assert!(ran.err.contains("latin.model, line 2, column 13: this byte is not UTF-8"), "{}", ran.err);
+}
+
+#[test]
+fn sizes() {
+    let says = |text: &str, expected: &str| says("m.model", text, &["build", "m.model"], expected);
+    let chain: String = (0..65).map(|n| format!("  s{n} -- tau --> s{}\n", n + 1)).collect();
+    says(&format!("leaf a\n{chain}"), "line 65, column 18: 's64' is one state too many");
+    says(
+        &format!("leaf a\n{}", "  s -- tau --> s\n".repeat(85)),
+        "line 86, column 3: the leaf 'a' has 85 steps",
+    );
+    let channels: String = (0..32).map(|n| format!("channels c{n}\n")).collect();
+    says(&channels, "the file defines no process");
+    says(&format!("{channels}leaf a\n  states s\n"), "line 32, column 10: 'c31' is one channel too many");
+    let leaves: String = (0..65).map(|n| format!("leaf a{n}\n  states s\n")).collect();
+    says(&leaves, "line 129, column 6: this definition makes line 64");
+    let states: String = (0..64).map(|n| format!("s{n} ")).collect();
+    let large = format!("leaf a\n  states {states}\nb = compose a a\nc = compose b b\n");
+    says(&large, "line 4, column 1: refusal 6");
+}
+
+#[test]
+fn aut_files() {
+    let says = |text: &str, expected: &str| {
+        says("m.aut", text, &["from-aut", "m.aut"], &format!("m.aut, {expected}"))
+    };
+    says("", "line 1, column 1: the file is empty");
+    says("0 1 2\n", "line 1, column 1: an .aut file starts with 'des");
+    says("des (0, 1)\n", "line 1, column 6: an .aut file starts with");
+    says("des (0, x, 1)\n", "line 1, column 9: 'x' is not a whole number");
+    says("des (0, 2, 1)\n(0, i, 0)\n", "line 1, column 8: the header says TRANSITIONS = 2, and 1 follow");
+    says("des (1, 0, 1)\n", "line 1, column 1: the first state is 1");
+    says("des (0, 1, 1)\n0 i 0\n", "line 2, column 1: a transition is");
+    says("des (0, 1, 1)\n(0, i)\n", "line 2, column 2: a transition is");
+    says("des (0, 1, 1)\n(0, i, 1)\n", "line 2, column 8: there is no state 1");
+    says("des (0, 1, 1)\n(0, \"a, 0)\n", "line 2, column 5: the label's quote is not closed");
+    says("des (0, 1, 1)\n(0, !, 0)\n", "line 2, column 5: the label has a direction but no name");
+    says("des (0, 1, 1)\n(0, , 0)\n", "line 2, column 4: the label is empty");
+    says("des (0, 0, 65)\n", "line 1, column 1: the .aut file has 65 states");
+    says(
+        "des (0, 2, 1)\n(0, a, 0)\n(0, a!, 0)\n",
+        "line 3, column 5: 'a' stands with a direction in one place",
+    );
+}
+
+#[test]
+fn name_tables() {
+    let says = |text: &str, expected: &str| {
+        let folder = Folder::new();
+        folder.write("m.hex", "000102000201\n");
+        folder.write("m.names", text);
+        let ran = folder.run(&["show", "m.hex"]);
+        assert_eq!(ran.status, 2, "{text}");
+        assert!(ran.err.contains(&format!("m.names, {expected}")), "{text}: {}", ran.err);
+        assert_eq!(folder.run(&["check", "m.hex"]).status, 0);
+    };
+    says("chanel 1 a\n", "line 1, column 1: a line of a name table is");
+    says("channel 0 a\n", "line 1, column 9: channels have the numbers 1 to 31");
+    says("channel x a\n", "line 1, column 9: a number is due");
+    says("channel 1 a\nchannel 2 a\n", "line 2, column 1: this number or name stands above");
+    says("process 1 a\n", "line 1, column 9: the model has no line 1");
+    says("state 0 2 a\n", "line 1, column 7: line 0 of the model is no leaf with a state 2");
+}
+
+#[test]
+fn words() {
+    let folder = Folder::new();
+    folder.write("a.hex", "000102000201\n");
+    folder.write("a.model", "leaf a\n  states s\n");
+    folder.write("-odd.hex", "000102000201\n");
+    let fails = |words: &[&str], expected: &str| {
+        let ran = folder.run(words);
+        assert_eq!(ran.status, 2, "{words:?}");
+        assert!(ran.err.contains(expected), "{words:?}: {}", ran.err);
+    };
+    fails(&["steps", "a.hex", "--line", "1"], "has no line 1; its lines go from 0 to 0");
+    fails(&["steps", "a.hex", "--most", "1", "--all"], "has 2 states, too many to list");
+    fails(&["pairs", "a.hex", "a.hex", "--most", "3"], "4 pairs of states, too many to list");
+    fails(&["pairs", "a.hex", "a.hex", "--mode", "both"], "--mode takes strong or weak");
+    fails(&["compare", "a.hex", "a.hex", "--quiet=yes"], "--quiet takes no value");
+    fails(&["compare", "a.hex", "a.hex", "--limit", "-1"], "--limit takes a whole number");
+    fails(&["build", "a.model", "--into", "nowhere"], "nowhere/a.hex can't be written");
+    fails(&["build", "a.model", "--out", "b.hex"], "--out names the file of 'build --text'");
+    fails(&["build", "a.hex"], "'seipolku build --text a.hex'");
+    fails(&["build", "a.aut"], "'seipolku from-aut a.aut'");
+    fails(&["show", "-odd.hex"], "show has no option -odd.hex");
+    fails(&["from-aut"], "from-aut takes one file or more");
+    folder.done(&["show", "--", "-odd.hex"]);
+    folder.done(&["compare", "a.hex", "a.hex", "--limit", "18446744073709551615"]);
+}

@@ -1,0 +1,133 @@
+//! Outputs of the command on the shipped examples, compared with the files in tests/expected. With SEIPOLKU_WRITE_EXPECTED set, the
+//! files are written anew.
+
+mod common;
+
+use common::{run, Folder, Ran};
+use std::fs;
+use std::path::Path;
+
+/// Each run by the name of its stored file.
+const RUNS: &[(&str, &[&str])] = &[
+    ("compare_faulty", &["compare", "models/shuttle_one_faulty.hex", "models/shuttle_one_service.hex"]),
+    ("compare_right", &["compare", "models/shuttle_one.hex", "models/shuttle_one_service.hex"]),
+    (
+        "compare_weak",
+        &["compare", "models/shuttle_one.hex", "models/shuttle_one_service.hex", "--mode", "weak"],
+    ),
+    ("compare_json", &["compare", "models/abp.hex", "models/abp_service.hex", "--json"]),
+    ("compare_small_table", &["compare", "models/abp.hex", "models/abp_service.hex", "--nodes", "4096"]),
+    ("compare_too_large", &["compare", "models/philosophers3.hex", "models/philosophers3_ordered.hex"]),
+    ("compare_table_of_one", &["compare", "models/abp.hex", "models/abp_service.hex", "--nodes", "1"]),
+    (
+        "compare_limit",
+        &["compare", "models/shuttle1.hex", "models/shuttle1_service.hex", "--mode=weak", "--limit=2"],
+    ),
+    ("compare_other_names", &["compare", "models/shuttle_one.hex", "models/abp_service.hex"]),
+    ("pairs_right", &["pairs", "models/shuttle_one.hex", "models/shuttle_one_service.hex"]),
+    ("pairs_faulty", &["pairs", "models/shuttle_one_faulty.hex", "models/shuttle_one_service.hex"]),
+    ("pairs_strong", &["pairs", "models/buffer_bag2.hex", "models/buffer_places2.hex", "--mode", "strong"]),
+    ("pairs_reachable", &["pairs", "models/shuttle1.hex", "models/shuttle1_service.hex", "--reachable"]),
+    ("steps", &["steps", "models/shuttle_one_faulty.hex"]),
+    ("steps_all", &["steps", "models/shuttle_one.hex", "--all"]),
+    ("steps_line", &["steps", "models/lotos_data_term_gate.hex", "--line", "2"]),
+    ("steps_too_large", &["steps", "models/scheduler6.hex", "--most", "100"]),
+    ("show_shuttle", &["show", "models/shuttle1_faulty.hex"]),
+    ("show_lotos", &["show", "models/lotos_data_term_gate.hex"]),
+    ("show_dot", &["show", "models/shuttle_one_faulty.hex", "--dot"]),
+    ("show_dot_leaf", &["show", "models/shuttle_one.hex", "--dot", "--line", "0"]),
+    ("check", &["check", "models/gas_closed_right.hex"]),
+    ("to_aut", &["to-aut", "models/shuttle_one.hex"]),
+    ("to_aut_gates", &["to-aut", "models/lotos_connect.hex", "--tau"]),
+    ("build_text", &["build", "--text", "models/shuttle1.hex"]),
+    ("no_subcommand", &[]),
+    ("no_such_file", &["check", "models/nothing.hex"]),
+    ("no_such_option", &["compare", "--fast", "a", "b"]),
+];
+
+#[test]
+fn outputs() {
+    for (name, words) in RUNS {
+        compare(name, &run(words));
+    }
+}
+
+#[test]
+fn helps() {
+    for command in ["compare", "pairs", "steps", "show", "check", "from-aut", "to-aut", "build"] {
+        let ran = run(&[command, "--help"]);
+        assert_eq!(ran.status, 0);
+        assert!(ran.out.contains("Example"), "{command}: no example");
+        assert!(ran.out.contains(&format!("seipolku {command} ")), "{command}");
+        assert_eq!(ran.out, run(&["help", command]).out);
+    }
+    assert_eq!(run(&["--help"]).status, 0);
+}
+
+/// Files that the library refuses, one for each number 1 to 6.
+#[test]
+fn refused_texts() {
+    let texts: &[(&str, &str)] = &[
+        ("refused_1_empty", ""),
+        ("refused_1_letter", "000102000201\n01030a\n"),
+        ("refused_1_odd", "000102000201\n010300012\n"),
+        ("refused_1_end", "000102000201\n01030001"),
+        ("refused_2", "000102000201\n\n"),
+        ("refused_3", "000102000201\n02030001\n"),
+        ("refused_4_kind", "000102000201\n01070001\n"),
+        ("refused_4_length", "000102000201\n010200\n"),
+        ("refused_5_state", "000102000202\n"),
+        ("refused_5_action", "000102000101\n"),
+        ("refused_5_channel", "000102000201\n01030020\n"),
+        ("refused_5_operand", "000102000201\n01030101\n"),
+        ("refused_6", "000140\n01020000\n02020101\n"),
+        ("refused_aut", "des (0, 0, 1)\n"),
+    ];
+    for (name, text) in texts {
+        let folder = Folder::new();
+        folder.write("model.hex", text);
+        folder.write("good.hex", "000101\n");
+        let mut all = String::new();
+        for words in
+            [&["check", "model.hex"][..], &["compare", "good.hex", "model.hex"], &["show", "model.hex"]]
+        {
+            let ran = folder.run(words);
+            assert_eq!(ran.status, 2, "{name} {words:?}");
+            all += &format!("$ {}\n{}{}", words.join(" "), ran.out, ran.err);
+        }
+        compare(name, &Ran { out: all, err: String::new(), status: 2 });
+    }
+}
+
+fn compare(name: &str, ran: &Ran) {
+    let file = Path::new(env!("CARGO_MANIFEST_DIR")).join("tests/expected").join(format!("{name}.txt"));
+    let found = without_times(&format!("{}{}status {}\n", ran.out, ran.err, ran.status));
+    if std::env::var_os("SEIPOLKU_WRITE_EXPECTED").is_some() {
+        fs::write(&file, &found).expect("the stored file is written");
+    }
+    let expected = fs::read_to_string(&file).unwrap_or_default();
+    assert_eq!(found, expected, "{name}: SEIPOLKU_WRITE_EXPECTED=1 stores the new output");
+}
+
+/// Puts TIME for each number of seconds, the only thing that changes between runs.
+fn without_times(text: &str) -> String {
+    let mut lines = Vec::new();
+    for line in text.lines() {
+        let mut line = line.to_string();
+        if let Some((before, seconds)) =
+            line.rsplit_once(", ").filter(|(_, s)| s.ends_with(" s") && s.contains('.'))
+        {
+            if seconds.trim_end_matches(" s").parse::<f64>().is_ok() {
+                line = format!("{before}, TIME s");
+            }
+        }
+        let parts: Vec<&str> = line.split("\"seconds\": ").collect();
+        let timeless: Vec<&str> = parts
+            .iter()
+            .skip(1)
+            .map(|p| p.trim_start_matches(|c: char| c.is_ascii_digit() || c == '.'))
+            .collect();
+        lines.push(std::iter::once(parts[0]).chain(timeless).collect::<Vec<_>>().join("\"seconds\": TIME"));
+    }
+    lines.join("\n") + "\n"
+}
