@@ -74,7 +74,15 @@ fn find_from(packed: &[u32], high: &[u32], used: u32, from: usize, v: u8, lo: u3
 }
 
 // The same among the entries that the index covers, by their chain.
-fn find_chained(packed: &[u32], high: &[u32], work: &[u32], used: u32, v: u8, lo: u32, hi: u32) -> Found
+fn find_chained(
+    packed: &[u32],
+    high: &[u32],
+    work: &[u32],
+    used: u32,
+    v: u8,
+    lo: u32,
+    hi: u32,
+) -> Found
     requires { ⌜ WellFormed (table-of packed high used) ⌝ }
     requires { ⌜ Indexing (table-of packed high used) (now work) ⌝ }
     requires { ⌜ lo < maxLength ⌝ }
@@ -281,7 +289,11 @@ fn low_cofactor(packed: &[u32], f: u32, v: u8) -> u32
     ensures { λ r. ⌜ r ≡ cofactorOf (levels (now (packed .entry))) (lows (now (packed .entry))) f v ⌝ }
 {
     let word = packed[f as usize];
-    if word / 1048576 == v as u32 { word % 1048576 } else { f }
+    if word / 1048576 == v as u32 {
+        word % 1048576
+    } else {
+        f
+    }
 }
 
 // The same, fixed to true.
@@ -291,7 +303,11 @@ fn high_cofactor(packed: &[u32], high: &[u32], f: u32, v: u8) -> u32
 {
     let at = f as usize;
     let word = packed[at];
-    if word / 1048576 == v as u32 { high[at] } else { f }
+    if word / 1048576 == v as u32 {
+        high[at]
+    } else {
+        f
+    }
 }
 
 pub struct Split {
@@ -545,13 +561,7 @@ pub fn or(
 }
 
 // The entry of the negation.
-pub fn not(
-    f: u32,
-    room: Room,
-    packed: &mut [u32],
-    high: &mut [u32],
-    work: &mut [u32],
-) -> Room
+pub fn not(f: u32, room: Room, packed: &mut [u32], high: &mut [u32], work: &mut [u32]) -> Room
     requires { ⌜ Ready (holding packed high work room) ⌝ }
     ensures { λ r. ⌜ Maps (entering packed high work room) (leaving packed high work r) ¬′_ f (r .root) ⌝ }
 {
@@ -596,15 +606,7 @@ pub fn exists(
     requires { ⌜ v ≤ lastLevel ⌝ }
     ensures { λ r. ⌜ Maps (entering packed high work room) (leaving packed high work r) (some v) f (r .root) ⌝ }
 {
-    let a = apply(
-        fixing(v, false),
-        f,
-        0,
-        room,
-        packed,
-        high,
-        work,
-    );
+    let a = apply(fixing(v, false), f, 0, room, packed, high, work);
     let b = apply(fixing(v, true), f, 0, a, packed, high, work);
     apply(1, a.root, b.root, b, packed, high, work)
 }
@@ -730,25 +732,8 @@ pub fn number_is(
     if w == 0 {
         return constant(code == 0, room);
     }
-    let m = number_is(
-        code / 2,
-        v + k,
-        k,
-        w - 1,
-        room,
-        packed,
-        high,
-        work,
-    );
-    guard(
-        v,
-        code % 2 == 1,
-        m.root,
-        m,
-        packed,
-        high,
-        work,
-    )
+    let m = number_is(code / 2, v + k, k, w - 1, room, packed, high, work);
+    guard(v, code % 2 == 1, m.root, m, packed, high, work)
 }
 
 // It is below n.
@@ -769,26 +754,8 @@ pub fn number_below(
     if w == 0 {
         return constant(0 < n, room);
     }
-    let a = number_below(
-        n / 2 + n % 2,
-        v + k,
-        k,
-        w - 1,
-        room,
-        packed,
-        high,
-        work,
-    );
-    let b = number_below(
-        n / 2,
-        v + k,
-        k,
-        w - 1,
-        a,
-        packed,
-        high,
-        work,
-    );
+    let a = number_below(n / 2 + n % 2, v + k, k, w - 1, room, packed, high, work);
+    let b = number_below(n / 2, v + k, k, w - 1, a, packed, high, work);
     node(v, a.root, b.root, b, packed, high, work)
 }
 
@@ -826,15 +793,7 @@ pub fn same(
     requires { ⌜ (v ≤ lastLevel) × (w ≤ lastLevel) × (v ≡ w → ⊥) ⌝ }
     ensures { λ r. ⌜ Lists (entering packed high work room) (leaving packed high work r) (same v w) (r .root) ⌝ }
 {
-    pair(
-        smaller(v, w),
-        larger(v, w),
-        1,
-        room,
-        packed,
-        high,
-        work,
-    )
+    pair(smaller(v, w), larger(v, w), 1, room, packed, high, work)
 }
 
 // ---- several levels
@@ -910,17 +869,7 @@ pub fn rename_from(
     if n == 0 {
         return with_root(room, f);
     }
-    let m = rename_from(
-        f,
-        v + k,
-        w + k,
-        k,
-        n - 1,
-        room,
-        packed,
-        high,
-        work,
-    );
+    let m = rename_from(f, v + k, w + k, k, n - 1, room, packed, high, work);
     rename(m.root, v, w, m, packed, high, work)
 }
 
