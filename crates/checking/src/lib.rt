@@ -105,9 +105,7 @@ fn compare_in(left: &[u8], right: &[u8], mode: u64) -> Answer {
     let mut level = [0u8; 4096];
     let mut low = [0u32; 4096];
     let mut high = [0u32; 4096];
-    let mut head = [0u32; 4096];
-    let mut next = [0u32; 4096];
-    let mut memo = [0u32; 8192];
+    let mut work = [0u32; 16384];
     compare(
         left,
         right,
@@ -116,9 +114,7 @@ fn compare_in(left: &[u8], right: &[u8], mode: u64) -> Answer {
         &mut level,
         &mut low,
         &mut high,
-        &mut head,
-        &mut next,
-        &mut memo,
+        &mut work,
     )
 }
 

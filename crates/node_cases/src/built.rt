@@ -1,10 +1,61 @@
 // Functions built by the operations of `nodes`, shown as truth tables over the four lowest levels by look-up.
-ghost use Rattle.nodes.specs.Start.{Fit};
-ghost use Rattle.nodes.specs.Lent.{holding};
+ghost use Rattle.nodes.specs.Start.{Fits};
+ghost use Rattle.nodes.specs.Lent.{holding, leaving};
 ghost use Rattle.nodes.specs.Work.{Ready};
 use nodes::Room;
 use nodes::lookup::Looked;
 use nodes::lookup::look_up;
+
+// The entries of the functions, and the room that they leave.
+pub struct Roots {
+    pub five: u32,
+    pub six: u32,
+    pub either: u32,
+    pub other: u32,
+    pub both: u32,
+    pub some: u32,
+    pub renamed: u32,
+    pub room: Room,
+}
+
+// The number at levels 0 to 2 is 5; it is 6; one of both; not 5; one of both and not 5, which is 6; one of both, with level 0 anything; one of
+// both, with level 2 renamed to 3.
+fn build(room: Room, packed: &mut [u32], high: &mut [u32], work: &mut [u32]) -> Roots
+    requires { ⌜ Ready (holding packed high work room) ⌝ }
+    ensures { λ r. ⌜ Ready (leaving packed high work (r .room)) ⌝ }
+{
+    let a = nodes::number_is(5, 0, 1, 3, room, packed, high, work);
+    let b = nodes::number_is(6, 0, 1, 3, a, packed, high, work);
+    let c = nodes::or(a.root, b.root, b, packed, high, work);
+    let d = nodes::not(a.root, c, packed, high, work);
+    let e = nodes::and(d.root, c.root, d, packed, high, work);
+    let f = nodes::exists(c.root, 0, e, packed, high, work);
+    let g = nodes::rename(c.root, 2, 3, f, packed, high, work);
+    Roots {
+        five: a.root,
+        six: b.root,
+        either: c.root,
+        other: d.root,
+        both: e.root,
+        some: f.root,
+        renamed: g.root,
+        room: g,
+    }
+}
+
+// From a table of the constants alone.
+fn begin(packed: &mut [u32], high: &mut [u32], work: &mut [u32]) -> Roots
+    requires { ⌜ Fits (now packed) (now high) ⌝ }
+    ensures { λ r. ⌜ Ready (leaving packed high work (r .room)) ⌝ }
+{
+    nodes::start(packed, high, work);
+    let room = Room {
+        used: 2,
+        full: false,
+        root: 0,
+    };
+    build(room, packed, high, work)
+}
 
 fn wide(x: u32) -> u64 {
     x as u64
@@ -37,166 +88,26 @@ fn show(name: &[u8], root: u32, level: &[u8], low: &[u32], high: &[u32]) {
     io::write_all(1, b"\n");
 }
 
-// Level 2 is level 3.
-fn renamed(
-    c: u32,
-    room: Room,
-    level: &mut [u8],
-    low: &mut [u32],
-    high: &mut [u32],
-    head: &mut [u32],
-    next: &mut [u32],
-    memo: &mut [u32],
-)
-    requires { ⌜ Ready (holding level low high head next memo room) ⌝ }
-{
-    let r = nodes::rename(c, 2, 3, room, level, low, high, head, next, memo);
-    show(b"rename", r.root, level, low, high);
-}
-
-// Level 0 is anything.
-fn some(
-    c: u32,
-    room: Room,
-    level: &mut [u8],
-    low: &mut [u32],
-    high: &mut [u32],
-    head: &mut [u32],
-    next: &mut [u32],
-    memo: &mut [u32],
-)
-    requires { ⌜ Ready (holding level low high head next memo room) ⌝ }
-{
-    let r = nodes::exists(c, 0, room, level, low, high, head, next, memo);
-    show(b"exists", r.root, level, low, high);
-    renamed(c, r, level, low, high, head, next, memo);
-}
-
-// One of both and not 5, which is 6.
-fn met(
-    n: u32,
-    c: u32,
-    room: Room,
-    level: &mut [u8],
-    low: &mut [u32],
-    high: &mut [u32],
-    head: &mut [u32],
-    next: &mut [u32],
-    memo: &mut [u32],
-)
-    requires { ⌜ Ready (holding level low high head next memo room) ⌝ }
-{
-    let r = nodes::and(n, c, room, level, low, high, head, next, memo);
-    show(b"and", r.root, level, low, high);
-    some(c, r, level, low, high, head, next, memo);
-}
-
-// Not 5.
-fn turned(
-    a: u32,
-    c: u32,
-    room: Room,
-    level: &mut [u8],
-    low: &mut [u32],
-    high: &mut [u32],
-    head: &mut [u32],
-    next: &mut [u32],
-    memo: &mut [u32],
-)
-    requires { ⌜ Ready (holding level low high head next memo room) ⌝ }
-{
-    let r = nodes::not(a, room, level, low, high, head, next, memo);
-    show(b"not", r.root, level, low, high);
-    met(r.root, c, r, level, low, high, head, next, memo);
-}
-
-// One of both.
-fn joined(
-    a: u32,
-    b: u32,
-    room: Room,
-    level: &mut [u8],
-    low: &mut [u32],
-    high: &mut [u32],
-    head: &mut [u32],
-    next: &mut [u32],
-    memo: &mut [u32],
-)
-    requires { ⌜ Ready (holding level low high head next memo room) ⌝ }
-{
-    let r = nodes::or(a, b, room, level, low, high, head, next, memo);
-    show(b"or", r.root, level, low, high);
-    turned(a, r.root, r, level, low, high, head, next, memo);
-}
-
-// It is 6.
-fn second(
-    a: u32,
-    room: Room,
-    level: &mut [u8],
-    low: &mut [u32],
-    high: &mut [u32],
-    head: &mut [u32],
-    next: &mut [u32],
-    memo: &mut [u32],
-)
-    requires { ⌜ Ready (holding level low high head next memo room) ⌝ }
-{
-    let r = nodes::number_is(6, 0, 1, 3, room, level, low, high, head, next, memo);
-    show(b"number is 6", r.root, level, low, high);
-    joined(a, r.root, r, level, low, high, head, next, memo);
-}
-
-// The number at levels 0 to 2 is 5.
-fn first(
-    room: Room,
-    level: &mut [u8],
-    low: &mut [u32],
-    high: &mut [u32],
-    head: &mut [u32],
-    next: &mut [u32],
-    memo: &mut [u32],
-)
-    requires { ⌜ Ready (holding level low high head next memo room) ⌝ }
-{
-    let r = nodes::number_is(5, 0, 1, 3, room, level, low, high, head, next, memo);
-    show(b"number is 5", r.root, level, low, high);
-    second(r.root, r, level, low, high, head, next, memo);
-}
-
-// From a table of the constants alone.
-fn begin(
-    level: &mut [u8],
-    low: &mut [u32],
-    high: &mut [u32],
-    head: &mut [u32],
-    next: &mut [u32],
-    memo: &mut [u32],
-)
-    requires { ⌜ Fit (now level) (now low) (now high) ⌝ }
-{
-    nodes::start(level, low, high, head, memo);
-    let room = Room {
-        used: 2,
-        full: false,
-        root: 0,
-    };
-    first(room, level, low, high, head, next, memo);
+fn show_all(r: Roots, level: &[u8], low: &[u32], high: &[u32]) {
+    show(b"number is 5", r.five, level, low, high);
+    show(b"number is 6", r.six, level, low, high);
+    show(b"or", r.either, level, low, high);
+    show(b"not", r.other, level, low, high);
+    show(b"and", r.both, level, low, high);
+    show(b"exists", r.some, level, low, high);
+    show(b"rename", r.renamed, level, low, high);
 }
 
 pub fn built() {
     let mut level = [0u8; 64];
     let mut low = [0u32; 64];
     let mut high = [0u32; 64];
-    let mut head = [0u32; 16];
-    let mut next = [0u32; 64];
-    let mut memo = [0u32; 64];
-    begin(
-        &mut level,
-        &mut low,
-        &mut high,
-        &mut head,
-        &mut next,
-        &mut memo,
-    );
+    let mut work = [0u32; 256];
+    let r = begin(&mut low, &mut high, &mut work);
+    let room = r.room;
+    if room.full {
+        return;
+    }
+    nodes::unpack(&mut level, &mut low, room.used);
+    show_all(r, &level, &low, &high);
 }

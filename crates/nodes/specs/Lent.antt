@@ -4,7 +4,8 @@ use Prim.Native.Nat.{ℕ}
 use denote.Ref.{RefT, now}
 use denote.Triple.Both.{Both}
 use Rattle.nodes.specs.declared.Room.{Room}
-use Rattle.nodes.specs.Table.{Table, table}
+use Rattle.nodes.specs.Table.{Table}
+use Rattle.nodes.specs.Packed.{packed-table}
 use Rattle.nodes.specs.Work.{Store, store}
 
 -- a slice in a `requires`, and in an `ensures`
@@ -15,18 +16,19 @@ abbrev pub Lent : Type 0
 Lent = Both Slice Slice
 
 -- the store that a call asks for
-abbrev pub holding : Slice → Slice → Slice → Slice → Slice → Slice → Room → Store
-holding level low high head next memo room = store (now level) (now low) (now high) (now head) (now next) (now memo) room
+abbrev pub holding : Slice → Slice → Slice → Room → Store
+holding packed high work room = store (now packed) (now high) (now work) room
 
 -- the store that it is given, and the one that it leaves
-abbrev pub entering : Lent → Lent → Lent → Lent → Lent → Lent → Room → Store
-entering level low high head next memo room =
-    holding (level .entry) (low .entry) (high .entry) (head .entry) (next .entry) (memo .entry) room
+abbrev pub entering : Lent → Lent → Lent → Room → Store
+entering packed high work room = holding (packed .entry) (high .entry) (work .entry) room
 
-abbrev pub leaving : Lent → Lent → Lent → Lent → Lent → Lent → Room → Store
-leaving level low high head next memo room =
-    holding (level .exit) (low .exit) (high .exit) (head .exit) (next .exit) (memo .exit) room
+abbrev pub leaving : Lent → Lent → Lent → Room → Store
+leaving packed high work room = holding (packed .exit) (high .exit) (work .exit) room
 
--- the table that it is given, with so many entries in use
-abbrev pub table-in : Lent → Lent → Lent → ℕ → Table
-table-in level low high used = table (now (level .entry)) (now (low .entry)) (now (high .entry)) used
+-- the table that a call asks for, with so many entries in use, and the one that it is given
+abbrev pub table-of : Slice → Slice → ℕ → Table
+table-of packed high used = packed-table (now packed) (now high) used
+
+abbrev pub table-in : Lent → Lent → ℕ → Table
+table-in packed high used = table-of (packed .entry) (high .entry) used

@@ -2,6 +2,8 @@ pub mod Fun
 pub mod Formula
 pub mod Needed
 pub mod Table
+pub mod Packed
+pub mod Parts
 pub mod Index
 pub mod Make
 pub mod Operate

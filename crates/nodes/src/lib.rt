@@ -1,5 +1,6 @@
-// Node tables: three slices of one length, whose first `used` entries are in use. Entries 0 and 1
-// are the constants; the children of a node stand before it and have larger levels.
+// Node tables. Calls hold a table in two slices of one length, whose first `used` entries are in use: `packed` has an
+// entry's level times 1048576 plus its low child, `high` its high child. Entries 0 and 1 are the constants; the children of
+// a node stand before it and have larger levels. `work` has the index and the memory of results: any length, any content.
 pub mod lookup;
 
 ghost use mathlib.Core.Path.{_≡_};
@@ -7,14 +8,16 @@ ghost use mathlib.Core.Bool.{cond};
 ghost use Prim.Native.Nat.{ℕ, _+_, _*_, _≤_, _<_, min, max};
 ghost use lib.ListN.{length, getD, set};
 ghost use Rattle.nodes.specs.Fun.{both, either, negated, fixed, same};
-ghost use Rattle.nodes.specs.Operate.{operation, lastOperation, Operands, SettlesBy, Settles, cofactorOf, Splits, Recalled, Stores, Finishes, Helped, Operates};
-ghost use Rattle.nodes.specs.Start.{Clear, Fit, Starts};
-ghost use Rattle.nodes.specs.Table.{table, maxLength, lastLevel, den, WellFormed};
-ghost use Rattle.nodes.specs.Index.{hashOf, coverage, Indexed, Linked};
-ghost use Rattle.nodes.specs.Make.{Makeable, FindsFrom, FindsBelow, Finds, Makes, Answers, nodeFun};
+ghost use Rattle.nodes.specs.Packed.{levels, lows, packed-table};
+ghost use Rattle.nodes.specs.Parts.{linksIn, headsIn, memoIn};
+ghost use Rattle.nodes.specs.Operate.{operation, lastOperation, Operands, SettlesBy, Settles, cofactorOf, Splits, Recalled, Keeping, Finishing, Helping, Operating};
+ghost use Rattle.nodes.specs.Start.{Clear, Fits, Starts, Unpackable, Unpacks};
+ghost use Rattle.nodes.specs.Table.{maxLength, lastLevel, den, WellFormed};
+ghost use Rattle.nodes.specs.Index.{hashOf, coverage, Indexing, Linking};
+ghost use Rattle.nodes.specs.Make.{Makeable, FindsFrom, FindsBelow, Finds, Making, nodeFun};
 ghost use Rattle.nodes.specs.Formula.{_∧′_, _∨′_, ¬′_, fix, some, some-from, renamed, renamed-from, bit, fix-below};
 ghost use Rattle.nodes.specs.Single.{digit, rooted, guarded, paired, Guards, Spaced, numberIs, numberBelow, numbersSame};
-ghost use Rattle.nodes.specs.Lent.{holding, entering, leaving, table-in};
+ghost use Rattle.nodes.specs.Lent.{holding, entering, leaving, table-of, table-in};
 ghost use Rattle.nodes.specs.Work.{roomOf, appliesTo, fixingOf, isDeeper, Ready, Applies, Lists, Joins, Maps, Chooses};
 
 // The answer of an operation: the entry of its result with the number of entries then in use, or
@@ -37,26 +40,18 @@ fn hash(a: u32, b: u32, c: u32, n: usize) -> usize
     ((a as usize) + (b as usize) * 12582917 + (c as usize) * 4256249) % n
 }
 
-// How many entries the index covers: none where it has no place for a hash.
-fn covered(head: &[u32], next: &[u32]) -> usize
-    ensures { λ r. ⌜ r ≡ coverage (now (head .entry)) (now (next .entry)) ⌝ }
+// How many entries the index covers.
+fn covered(work: &[u32]) -> usize
+    ensures { λ r. ⌜ r ≡ coverage (headsIn (now (work .entry))) (linksIn (now (work .entry))) ⌝ }
 {
-    if head.len() == 0 { 0 } else { next.len() }
+    work.len() / 4
 }
 
 // The node of level v with children lo and hi, if it is one of the entries from `from` on.
-fn find_from(
-    level: &[u8],
-    low: &[u32],
-    high: &[u32],
-    used: u32,
-    from: usize,
-    v: u8,
-    lo: u32,
-    hi: u32,
-) -> Found
-    requires { ⌜ WellFormed (table (now level) (now low) (now high) used) ⌝ }
-    ensures { λ r. ⌜ FindsFrom from (table-in level low high used) v lo hi r ⌝ }
+fn find_from(packed: &[u32], high: &[u32], used: u32, from: usize, v: u8, lo: u32, hi: u32) -> Found
+    requires { ⌜ WellFormed (table-of packed high used) ⌝ }
+    requires { ⌜ lo < maxLength ⌝ }
+    ensures { λ r. ⌜ FindsFrom from (table-in packed high used) v lo hi r ⌝ }
 {
     if (used as usize) <= from {
         return Found::Nothing;
@@ -65,13 +60,12 @@ fn find_from(
     if 2 < from {
         i = from as u32;
     }
+    let word = (v as u32) * 1048576 + lo;
     while i < used {
         let at = i as usize;
-        if level[at] == v {
-            if low[at] == lo {
-                if high[at] == hi {
-                    return Found::At(i);
-                }
+        if packed[at] == word {
+            if high[at] == hi {
+                return Found::At(i);
             }
         }
         i += 1;
@@ -81,107 +75,90 @@ fn find_from(
 
 // The same among the entries that the index covers, by their chain.
 fn find_chained(
-    level: &[u8],
-    low: &[u32],
+    packed: &[u32],
     high: &[u32],
-    head: &[u32],
-    next: &[u32],
+    work: &[u32],
     used: u32,
     v: u8,
     lo: u32,
     hi: u32,
 ) -> Found
-    requires { ⌜ WellFormed (table (now level) (now low) (now high) used) ⌝ }
-    requires { ⌜ Indexed (table (now level) (now low) (now high) used) (now head) (now next) ⌝ }
-    ensures { λ r. ⌜ FindsBelow (coverage (now (head .entry)) (now (next .entry))) (table-in level low high used) v lo hi r ⌝ }
+    requires { ⌜ WellFormed (table-of packed high used) ⌝ }
+    requires { ⌜ Indexing (table-of packed high used) (now work) ⌝ }
+    requires { ⌜ lo < maxLength ⌝ }
+    ensures { λ r. ⌜ FindsBelow (coverage (headsIn (now (work .entry))) (linksIn (now (work .entry)))) (table-in packed high used) v lo hi r ⌝ }
 {
-    let n = head.len();
+    let n = work.len() / 4;
     if n == 0 {
         return Found::Nothing;
     }
+    let word = (v as u32) * 1048576 + lo;
     let h = hash(v as u32, lo, hi, n);
-    let mut i = head[h];
+    let mut i = work[n + h];
     while 2 <= i {
         let at = i as usize;
-        if level[at] == v {
-            if low[at] == lo {
-                if high[at] == hi {
-                    return Found::At(i);
-                }
+        if packed[at] == word {
+            if high[at] == hi {
+                return Found::At(i);
             }
         }
-        i = next[at];
+        i = work[at];
     }
     Found::Nothing
 }
 
 // The same among all entries in use.
-fn find(
-    level: &[u8],
-    low: &[u32],
-    high: &[u32],
-    head: &[u32],
-    next: &[u32],
-    used: u32,
-    v: u8,
-    lo: u32,
-    hi: u32,
-) -> Found
-    requires { ⌜ WellFormed (table (now level) (now low) (now high) used) ⌝ }
-    requires { ⌜ Indexed (table (now level) (now low) (now high) used) (now head) (now next) ⌝ }
-    ensures { λ r. ⌜ Finds (table-in level low high used) v lo hi r ⌝ }
+fn find(packed: &[u32], high: &[u32], work: &[u32], used: u32, v: u8, lo: u32, hi: u32) -> Found
+    requires { ⌜ WellFormed (table-of packed high used) ⌝ }
+    requires { ⌜ Indexing (table-of packed high used) (now work) ⌝ }
+    requires { ⌜ lo < maxLength ⌝ }
+    ensures { λ r. ⌜ Finds (table-in packed high used) v lo hi r ⌝ }
 {
-    match find_chained(level, low, high, head, next, used, v, lo, hi) {
+    match find_chained(packed, high, work, used, v, lo, hi) {
         Found::At(i) => Found::At(i),
-        Found::Nothing => find_from(level, low, high, used, covered(head, next), v, lo, hi),
+        Found::Nothing => find_from(packed, high, used, covered(work), v, lo, hi),
     }
 }
 
 // Puts the new node `used` of level v with children lo and hi into the index, where that covers it.
-fn link(head: &mut [u32], next: &mut [u32], used: u32, v: u8, lo: u32, hi: u32)
-    ensures { λ _. ⌜ Linked (now (head .entry)) (now (next .entry)) used v lo hi (now (head .exit)) (now (next .exit)) ⌝ }
+fn link(work: &mut [u32], used: u32, v: u8, lo: u32, hi: u32)
+    ensures { λ _. ⌜ Linking (now (work .entry)) used v lo hi (now (work .exit)) ⌝ }
 {
-    let n = head.len();
+    let n = work.len() / 4;
     let at = used as usize;
-    if n == 0 {
-        return;
-    }
-    if at < next.len() {
+    if at < n {
         let h = hash(v as u32, lo, hi, n);
-        next[at] = head[h];
-        head[h] = used;
+        work[at] = work[n + h];
+        work[n + h] = used;
     }
 }
 
 // The entry of the function that is hi's where level v is true and lo's elsewhere: a new node only
 // where there is none.
 pub fn make(
-    level: &mut [u8],
-    low: &mut [u32],
+    packed: &mut [u32],
     high: &mut [u32],
-    head: &mut [u32],
-    next: &mut [u32],
+    work: &mut [u32],
     used: u32,
     v: u8,
     lo: u32,
     hi: u32,
 ) -> Made
-    requires { ⌜ Makeable (table (now level) (now low) (now high) used) v lo hi ⌝ }
-    requires { ⌜ Indexed (table (now level) (now low) (now high) used) (now head) (now next) ⌝ }
-    ensures { λ r. ⌜ Makes (table-in level low high used) (now (level .exit)) (now (low .exit)) (now (high .exit)) (now (head .exit)) (now (next .exit)) (nodeFun (table-in level low high used) v lo hi) r ⌝ }
+    requires { ⌜ Makeable (table-of packed high used) v lo hi ⌝ }
+    requires { ⌜ Indexing (table-of packed high used) (now work) ⌝ }
+    ensures { λ r. ⌜ Making (table-in packed high used) (now (packed .exit)) (now (high .exit)) (now (work .entry)) (now (work .exit)) (nodeFun (table-in packed high used) v lo hi) r ⌝ }
 {
     if lo == hi {
         return Made::At(lo, used);
     }
-    match find(level, low, high, head, next, used, v, lo, hi) {
+    match find(packed, high, work, used, v, lo, hi) {
         Found::At(i) => Made::At(i, used),
         Found::Nothing => {
             let at = used as usize;
-            if at < level.len() {
-                level[at] = v;
-                low[at] = lo;
+            if at < packed.len() {
+                packed[at] = (v as u32) * 1048576 + lo;
                 high[at] = hi;
-                link(head, next, used, v, lo, hi);
+                link(work, used, v, lo, hi);
                 Made::At(used, used + 1)
             } else {
                 Made::Full
@@ -243,18 +220,10 @@ fn settle_not(f: u32, g: u32) -> Settled
     Settled::Open
 }
 
-fn settle_fix(
-    level: &[u8],
-    low: &[u32],
-    high: &[u32],
-    used: u32,
-    op: u32,
-    f: u32,
-    g: u32,
-) -> Settled
-    requires { ⌜ Operands (table (now level) (now low) (now high) used) op f g ⌝ }
+fn settle_fix(packed: &[u32], high: &[u32], used: u32, op: u32, f: u32, g: u32) -> Settled
+    requires { ⌜ Operands (table-of packed high used) op f g ⌝ }
     requires { ⌜ 3 ≤ op ⌝ }
-    ensures { λ r. ⌜ Settles (table-in level low high used) op f g r ⌝ }
+    ensures { λ r. ⌜ Settles (table-in packed high used) op f g r ⌝ }
 {
     if f < 2 {
         return Settled::Is(f);
@@ -262,7 +231,8 @@ fn settle_fix(
     let at = f as usize;
     let k = op - 3;
     let v = k / 2;
-    let l = level[at] as u32;
+    let word = packed[at];
+    let l = word / 1048576;
     if l < v {
         return Settled::Open;
     }
@@ -273,13 +243,13 @@ fn settle_fix(
     if b == 1 {
         return Settled::Is(high[at]);
     }
-    Settled::Is(low[at])
+    Settled::Is(word % 1048576)
 }
 
 // The answer where it is an entry at hand.
-fn settle(level: &[u8], low: &[u32], high: &[u32], used: u32, op: u32, f: u32, g: u32) -> Settled
-    requires { ⌜ Operands (table (now level) (now low) (now high) used) op f g ⌝ }
-    ensures { λ r. ⌜ Settles (table-in level low high used) op f g r ⌝ }
+fn settle(packed: &[u32], high: &[u32], used: u32, op: u32, f: u32, g: u32) -> Settled
+    requires { ⌜ Operands (table-of packed high used) op f g ⌝ }
+    ensures { λ r. ⌜ Settles (table-in packed high used) op f g r ⌝ }
 {
     if op == 0 {
         return settle_and(f, g);
@@ -290,7 +260,7 @@ fn settle(level: &[u8], low: &[u32], high: &[u32], used: u32, op: u32, f: u32, g
     if op == 2 {
         return settle_not(f, g);
     }
-    settle_fix(level, low, high, used, op, f, g)
+    settle_fix(packed, high, used, op, f, g)
 }
 
 fn smaller(a: u8, b: u8) -> u8
@@ -305,13 +275,39 @@ fn larger(a: u8, b: u8) -> u8
     if a < b { b } else { a }
 }
 
-// The entry of f with level v, at most f's own, fixed to the bit that `child` is the children of.
-fn cofactor(level: &[u8], child: &[u32], f: u32, v: u8) -> u32
-    requires { ⌜ (f < length (now level)) × (f < length (now child)) ⌝ }
-    ensures { λ r. ⌜ r ≡ cofactorOf (now (level .entry)) (now (child .entry)) f v ⌝ }
+// The level of an entry.
+fn level_of(packed: &[u32], f: u32) -> u8
+    requires { ⌜ (f < length (now packed)) × (getD (levels (now packed)) f 0 ≤ 255) ⌝ }
+    ensures { λ r. ⌜ r ≡ getD (levels (now (packed .entry))) f 0 ⌝ }
+{
+    (packed[f as usize] / 1048576) as u8
+}
+
+// The entry of f with level v, at most f's own, fixed to false.
+fn low_cofactor(packed: &[u32], f: u32, v: u8) -> u32
+    requires { ⌜ f < length (now packed) ⌝ }
+    ensures { λ r. ⌜ r ≡ cofactorOf (levels (now (packed .entry))) (lows (now (packed .entry))) f v ⌝ }
+{
+    let word = packed[f as usize];
+    if word / 1048576 == v as u32 {
+        word % 1048576
+    } else {
+        f
+    }
+}
+
+// The same, fixed to true.
+fn high_cofactor(packed: &[u32], high: &[u32], f: u32, v: u8) -> u32
+    requires { ⌜ (f < length (now packed)) × (f < length (now high)) ⌝ }
+    ensures { λ r. ⌜ r ≡ cofactorOf (levels (now (packed .entry))) (now (high .entry)) f v ⌝ }
 {
     let at = f as usize;
-    if level[at] == v { child[at] } else { f }
+    let word = packed[at];
+    if word / 1048576 == v as u32 {
+        high[at]
+    } else {
+        f
+    }
 }
 
 pub struct Split {
@@ -323,43 +319,36 @@ pub struct Split {
 }
 
 // A node and an entry, with the smaller one of their levels fixed to each bit.
-fn split_at_top(
-    level: &[u8],
-    low: &[u32],
-    high: &[u32],
-    used: u32,
-    op: u32,
-    f: u32,
-    g: u32,
-) -> Split
-    requires { ⌜ Operands (table (now level) (now low) (now high) used) op f g ⌝ }
+fn split_at_top(packed: &[u32], high: &[u32], used: u32, op: u32, f: u32, g: u32) -> Split
+    requires { ⌜ Operands (table-of packed high used) op f g ⌝ }
     requires { ⌜ 2 ≤ f ⌝ }
-    ensures { λ r. ⌜ Splits (table-in level low high used) f g r ⌝ }
+    ensures { λ r. ⌜ Splits (table-in packed high used) f g r ⌝ }
 {
-    let v = smaller(level[f as usize], level[g as usize]);
+    let v = smaller(level_of(packed, f), level_of(packed, g));
     Split {
         v,
-        f0: cofactor(level, low, f, v),
-        f1: cofactor(level, high, f, v),
-        g0: cofactor(level, low, g, v),
-        g1: cofactor(level, high, g, v),
+        f0: low_cofactor(packed, f, v),
+        f1: high_cofactor(packed, high, f, v),
+        g0: low_cofactor(packed, g, v),
+        g1: high_cofactor(packed, high, g, v),
     }
 }
 
 // The result of an operation, where the memory has it.
-fn recall(memo: &[u32], op: u32, f: u32, g: u32) -> Found
+fn recall(work: &[u32], op: u32, f: u32, g: u32) -> Found
     requires { ⌜ op ≤ lastOperation ⌝ }
-    ensures { λ r. ⌜ Recalled (now (memo .entry)) op f g r ⌝ }
+    ensures { λ r. ⌜ Recalled (memoIn (now (work .entry))) op f g r ⌝ }
 {
-    let n = memo.len() / 4;
+    let from = 2 * (work.len() / 4);
+    let n = (work.len() - from) / 4;
     if n == 0 {
         return Found::Nothing;
     }
-    let at = 4 * hash(op, f, g, n);
-    if memo[at] == op + 1 {
-        if memo[at + 1] == f {
-            if memo[at + 2] == g {
-                return Found::At(memo[at + 3]);
+    let at = from + 4 * hash(op, f, g, n);
+    if work[at] == op + 1 {
+        if work[at + 1] == f {
+            if work[at + 2] == g {
+                return Found::At(work[at + 3]);
             }
         }
     }
@@ -367,29 +356,27 @@ fn recall(memo: &[u32], op: u32, f: u32, g: u32) -> Found
 }
 
 // Puts the result r of an operation into the memory, in the place of what was there.
-fn remember(memo: &mut [u32], op: u32, f: u32, g: u32, r: u32)
+fn remember(work: &mut [u32], op: u32, f: u32, g: u32, r: u32)
     requires { ⌜ op ≤ lastOperation ⌝ }
-    ensures { λ _. ⌜ Stores (now (memo .entry)) op f g r (now (memo .exit)) ⌝ }
+    ensures { λ _. ⌜ Keeping (now (work .entry)) op f g r (now (work .exit)) ⌝ }
 {
-    let n = memo.len() / 4;
+    let from = 2 * (work.len() / 4);
+    let n = (work.len() - from) / 4;
     if n == 0 {
         return;
     }
-    let at = 4 * hash(op, f, g, n);
-    memo[at] = op + 1;
-    memo[at + 1] = f;
-    memo[at + 2] = g;
-    memo[at + 3] = r;
+    let at = from + 4 * hash(op, f, g, n);
+    work[at] = op + 1;
+    work[at + 1] = f;
+    work[at + 2] = g;
+    work[at + 3] = r;
 }
 
 // Makes the node of v, a and b, and remembers it as the result of an operation.
 fn finish(
-    level: &mut [u8],
-    low: &mut [u32],
+    packed: &mut [u32],
     high: &mut [u32],
-    head: &mut [u32],
-    next: &mut [u32],
-    memo: &mut [u32],
+    work: &mut [u32],
     used: u32,
     v: u8,
     a: u32,
@@ -398,49 +385,46 @@ fn finish(
     f: u32,
     g: u32,
 ) -> Made
-    requires { ⌜ Makeable (table (now level) (now low) (now high) used) v a b ⌝ }
-    requires { ⌜ Indexed (table (now level) (now low) (now high) used) (now head) (now next) ⌝ }
+    requires { ⌜ Makeable (table-of packed high used) v a b ⌝ }
+    requires { ⌜ Indexing (table-of packed high used) (now work) ⌝ }
     requires { ⌜ op ≤ lastOperation ⌝ }
-    ensures { λ r. ⌜ Finishes (table-in level low high used) (now (level .exit)) (now (low .exit)) (now (high .exit)) (now (head .exit)) (now (next .exit)) (now (memo .entry)) (now (memo .exit)) (nodeFun (table-in level low high used) v a b) op f g r ⌝ }
+    ensures { λ r. ⌜ Finishing (table-in packed high used) (now (packed .exit)) (now (high .exit)) (now (work .entry)) (now (work .exit)) (nodeFun (table-in packed high used) v a b) op f g r ⌝ }
 {
-    let Made::At(i, n) = make(level, low, high, head, next, used, v, a, b) else {
+    let Made::At(i, n) = make(packed, high, work, used, v, a, b) else {
         return Made::Full;
     };
-    remember(memo, op, f, g, i);
+    remember(work, op, f, g, i);
     Made::At(i, n)
 }
 
 // The entry of the result of an operation on what f and g stand for.
 pub fn operate(
-    level: &mut [u8],
-    low: &mut [u32],
+    packed: &mut [u32],
     high: &mut [u32],
-    head: &mut [u32],
-    next: &mut [u32],
-    memo: &mut [u32],
+    work: &mut [u32],
     used: u32,
     op: u32,
     f: u32,
     g: u32,
 ) -> Made
-    requires { ⌜ Operands (table (now level) (now low) (now high) used) op f g ⌝ }
-    requires { ⌜ Helped (table (now level) (now low) (now high) used) (now head) (now next) (now memo) ⌝ }
-    ensures { λ r. ⌜ Operates (table-in level low high used) (now (level .exit)) (now (low .exit)) (now (high .exit)) (now (head .exit)) (now (next .exit)) (now (memo .exit)) (operation op (den (table-in level low high used) f) (den (table-in level low high used) g)) r ⌝ }
+    requires { ⌜ Operands (table-of packed high used) op f g ⌝ }
+    requires { ⌜ Helping (table-of packed high used) (now work) ⌝ }
+    ensures { λ r. ⌜ Operating (table-in packed high used) (now (packed .exit)) (now (high .exit)) (now (work .exit)) (operation op (den (table-in packed high used) f) (den (table-in packed high used) g)) r ⌝ }
 {
-    if let Settled::Is(k) = settle(level, low, high, used, op, f, g) {
+    if let Settled::Is(k) = settle(packed, high, used, op, f, g) {
         return Made::At(k, used);
     }
-    if let Found::At(k) = recall(memo, op, f, g) {
+    if let Found::At(k) = recall(work, op, f, g) {
         return Made::At(k, used);
     }
-    let s = split_at_top(level, low, high, used, op, f, g);
-    let Made::At(a, n) = operate(level, low, high, head, next, memo, used, op, s.f0, s.g0) else {
+    let s = split_at_top(packed, high, used, op, f, g);
+    let Made::At(a, n) = operate(packed, high, work, used, op, s.f0, s.g0) else {
         return Made::Full;
     };
-    let Made::At(b, m) = operate(level, low, high, head, next, memo, n, op, s.f1, s.g1) else {
+    let Made::At(b, m) = operate(packed, high, work, n, op, s.f1, s.g1) else {
         return Made::Full;
     };
-    finish(level, low, high, head, next, memo, m, s.v, a, b, op, f, g)
+    finish(packed, high, work, m, s.v, a, b, op, f, g)
 }
 
 // Sets every number of s to 0.
@@ -454,33 +438,39 @@ fn clear(s: &mut [u32])
     }
 }
 
-// Writes the constants to the first two entries.
-fn constants(level: &mut [u8], low: &mut [u32], high: &mut [u32])
-    requires { ⌜ Fit (now level) (now low) (now high) ⌝ }
-    ensures { λ _. ⌜ WellFormed (table (now (level .exit)) (now (low .exit)) (now (high .exit)) 2) ⌝ }
+// Writes the constants to the first two entries: level 255, and each its own child.
+fn constants(packed: &mut [u32], high: &mut [u32])
+    requires { ⌜ Fits (now packed) (now high) ⌝ }
+    ensures { λ _. ⌜ WellFormed (packed-table (now (packed .exit)) (now (high .exit)) 2) ⌝ }
 {
-    level[0] = 255;
-    level[1] = 255;
-    low[0] = 0;
-    low[1] = 1;
+    packed[0] = 267386880;
+    packed[1] = 267386881;
     high[0] = 0;
     high[1] = 1;
 }
 
 // A table of the constants alone, of which 2 entries are in use, with an empty index and memory.
-pub fn start(
-    level: &mut [u8],
-    low: &mut [u32],
-    high: &mut [u32],
-    head: &mut [u32],
-    memo: &mut [u32],
-)
-    requires { ⌜ Fit (now level) (now low) (now high) ⌝ }
-    ensures { λ _. ⌜ Starts (now (level .exit)) (now (low .exit)) (now (high .exit)) (now (head .exit)) (now (memo .exit)) ⌝ }
+pub fn start(packed: &mut [u32], high: &mut [u32], work: &mut [u32])
+    requires { ⌜ Fits (now packed) (now high) ⌝ }
+    ensures { λ _. ⌜ Starts (now (packed .exit)) (now (high .exit)) (now (work .exit)) ⌝ }
 {
-    constants(level, low, high);
-    clear(head);
-    clear(memo);
+    constants(packed, high);
+    clear(work);
+}
+
+// Writes the levels of the entries in use to `level`, and leaves their low children in `low`.
+pub fn unpack(level: &mut [u8], low: &mut [u32], used: u32)
+    requires { ⌜ Unpackable (now level) (now low) used ⌝ }
+    ensures { λ _. ⌜ Unpacks (now (low .entry)) used (now (level .exit)) (now (low .exit)) ⌝ }
+{
+    let mut i: u32 = 0;
+    while i < used {
+        let at = i as usize;
+        let word = low[at];
+        level[at] = (word / 1048576) as u8;
+        low[at] = word % 1048576;
+        i += 1;
+    }
 }
 
 // ---- calls one after the other: each takes the room that the one before it left
@@ -525,22 +515,19 @@ fn apply(
     f: u32,
     g: u32,
     room: Room,
-    level: &mut [u8],
-    low: &mut [u32],
+    packed: &mut [u32],
     high: &mut [u32],
-    head: &mut [u32],
-    next: &mut [u32],
-    memo: &mut [u32],
+    work: &mut [u32],
 ) -> Room
-    requires { ⌜ Ready (holding level low high head next memo room) ⌝ }
+    requires { ⌜ Ready (holding packed high work room) ⌝ }
     requires { ⌜ op ≤ lastOperation ⌝ }
-    ensures { λ r. ⌜ Applies (entering level low high head next memo room) (leaving level low high head next memo r) op f g (r .root) ⌝ }
+    ensures { λ r. ⌜ Applies (entering packed high work room) (leaving packed high work r) op f g (r .root) ⌝ }
 {
     if !can_apply(room, f, g) {
         return room;
     }
-    let m = operate(level, low, high, head, next, memo, room.used, op, f, g);
-    room_after(m, level.len())
+    let m = operate(packed, high, work, room.used, op, f, g);
+    room_after(m, packed.len())
 }
 
 // The entry of the conjunction of what f and g stand for.
@@ -548,17 +535,14 @@ pub fn and(
     f: u32,
     g: u32,
     room: Room,
-    level: &mut [u8],
-    low: &mut [u32],
+    packed: &mut [u32],
     high: &mut [u32],
-    head: &mut [u32],
-    next: &mut [u32],
-    memo: &mut [u32],
+    work: &mut [u32],
 ) -> Room
-    requires { ⌜ Ready (holding level low high head next memo room) ⌝ }
-    ensures { λ r. ⌜ Joins (entering level low high head next memo room) (leaving level low high head next memo r) _∧′_ f g (r .root) ⌝ }
+    requires { ⌜ Ready (holding packed high work room) ⌝ }
+    ensures { λ r. ⌜ Joins (entering packed high work room) (leaving packed high work r) _∧′_ f g (r .root) ⌝ }
 {
-    apply(0, f, g, room, level, low, high, head, next, memo)
+    apply(0, f, g, room, packed, high, work)
 }
 
 // The entry of the disjunction.
@@ -566,34 +550,22 @@ pub fn or(
     f: u32,
     g: u32,
     room: Room,
-    level: &mut [u8],
-    low: &mut [u32],
+    packed: &mut [u32],
     high: &mut [u32],
-    head: &mut [u32],
-    next: &mut [u32],
-    memo: &mut [u32],
+    work: &mut [u32],
 ) -> Room
-    requires { ⌜ Ready (holding level low high head next memo room) ⌝ }
-    ensures { λ r. ⌜ Joins (entering level low high head next memo room) (leaving level low high head next memo r) _∨′_ f g (r .root) ⌝ }
+    requires { ⌜ Ready (holding packed high work room) ⌝ }
+    ensures { λ r. ⌜ Joins (entering packed high work room) (leaving packed high work r) _∨′_ f g (r .root) ⌝ }
 {
-    apply(1, f, g, room, level, low, high, head, next, memo)
+    apply(1, f, g, room, packed, high, work)
 }
 
 // The entry of the negation.
-pub fn not(
-    f: u32,
-    room: Room,
-    level: &mut [u8],
-    low: &mut [u32],
-    high: &mut [u32],
-    head: &mut [u32],
-    next: &mut [u32],
-    memo: &mut [u32],
-) -> Room
-    requires { ⌜ Ready (holding level low high head next memo room) ⌝ }
-    ensures { λ r. ⌜ Maps (entering level low high head next memo room) (leaving level low high head next memo r) ¬′_ f (r .root) ⌝ }
+pub fn not(f: u32, room: Room, packed: &mut [u32], high: &mut [u32], work: &mut [u32]) -> Room
+    requires { ⌜ Ready (holding packed high work room) ⌝ }
+    ensures { λ r. ⌜ Maps (entering packed high work room) (leaving packed high work r) ¬′_ f (r .root) ⌝ }
 {
-    apply(2, f, 0, room, level, low, high, head, next, memo)
+    apply(2, f, 0, room, packed, high, work)
 }
 
 // The operation that fixes level v to b.
@@ -610,18 +582,15 @@ pub fn fix(
     v: u8,
     b: bool,
     room: Room,
-    level: &mut [u8],
-    low: &mut [u32],
+    packed: &mut [u32],
     high: &mut [u32],
-    head: &mut [u32],
-    next: &mut [u32],
-    memo: &mut [u32],
+    work: &mut [u32],
 ) -> Room
-    requires { ⌜ Ready (holding level low high head next memo room) ⌝ }
+    requires { ⌜ Ready (holding packed high work room) ⌝ }
     requires { ⌜ v ≤ lastLevel ⌝ }
-    ensures { λ r. ⌜ Maps (entering level low high head next memo room) (leaving level low high head next memo r) (fix v b) f (r .root) ⌝ }
+    ensures { λ r. ⌜ Maps (entering packed high work room) (leaving packed high work r) (fix v b) f (r .root) ⌝ }
 {
-    apply(fixing(v, b), f, 0, room, level, low, high, head, next, memo)
+    apply(fixing(v, b), f, 0, room, packed, high, work)
 }
 
 // The entry of ∃v f: f with v = 0, or f with v = 1.
@@ -629,42 +598,28 @@ pub fn exists(
     f: u32,
     v: u8,
     room: Room,
-    level: &mut [u8],
-    low: &mut [u32],
+    packed: &mut [u32],
     high: &mut [u32],
-    head: &mut [u32],
-    next: &mut [u32],
-    memo: &mut [u32],
+    work: &mut [u32],
 ) -> Room
-    requires { ⌜ Ready (holding level low high head next memo room) ⌝ }
+    requires { ⌜ Ready (holding packed high work room) ⌝ }
     requires { ⌜ v ≤ lastLevel ⌝ }
-    ensures { λ r. ⌜ Maps (entering level low high head next memo room) (leaving level low high head next memo r) (some v) f (r .root) ⌝ }
+    ensures { λ r. ⌜ Maps (entering packed high work room) (leaving packed high work r) (some v) f (r .root) ⌝ }
 {
-    let a = apply(
-        fixing(v, false),
-        f,
-        0,
-        room,
-        level,
-        low,
-        high,
-        head,
-        next,
-        memo,
-    );
-    let b = apply(fixing(v, true), f, 0, a, level, low, high, head, next, memo);
-    apply(1, a.root, b.root, b, level, low, high, head, next, memo)
+    let a = apply(fixing(v, false), f, 0, room, packed, high, work);
+    let b = apply(fixing(v, true), f, 0, a, packed, high, work);
+    apply(1, a.root, b.root, b, packed, high, work)
 }
 
 // ---- single functions, each with its own nodes alone
 
 // Whether f is an entry whose level is above v.
-fn is_deeper(v: u8, f: u32, level: &[u8]) -> bool
-    ensures { λ r. ⌜ r ≡ isDeeper v f (now (level .entry)) ⌝ }
+fn is_deeper(v: u8, f: u32, packed: &[u32]) -> bool
+    ensures { λ r. ⌜ r ≡ isDeeper v f (levels (now (packed .entry))) ⌝ }
 {
     let at = f as usize;
-    if at < level.len() {
-        return v < level[at];
+    if at < packed.len() {
+        return (v as u32) < packed[at] / 1048576;
     }
     false
 }
@@ -675,28 +630,25 @@ pub fn node(
     lo: u32,
     hi: u32,
     room: Room,
-    level: &mut [u8],
-    low: &mut [u32],
+    packed: &mut [u32],
     high: &mut [u32],
-    head: &mut [u32],
-    next: &mut [u32],
-    memo: &mut [u32],
+    work: &mut [u32],
 ) -> Room
-    requires { ⌜ Ready (holding level low high head next memo room) ⌝ }
+    requires { ⌜ Ready (holding packed high work room) ⌝ }
     requires { ⌜ v ≤ lastLevel ⌝ }
-    ensures { λ r. ⌜ Chooses (entering level low high head next memo room) (leaving level low high head next memo r) v lo hi (r .root) ⌝ }
+    ensures { λ r. ⌜ Chooses (entering packed high work room) (leaving packed high work r) v lo hi (r .root) ⌝ }
 {
     if !can_apply(room, lo, hi) {
         return room;
     }
-    if !is_deeper(v, lo, level) {
+    if !is_deeper(v, lo, packed) {
         return room;
     }
-    if !is_deeper(v, hi, level) {
+    if !is_deeper(v, hi, packed) {
         return room;
     }
-    let m = make(level, low, high, head, next, room.used, v, lo, hi);
-    room_after(m, level.len())
+    let m = make(packed, high, work, room.used, v, lo, hi);
+    room_after(m, packed.len())
 }
 
 // The room with a constant for its root.
@@ -730,20 +682,17 @@ fn guard(
     b: bool,
     f: u32,
     room: Room,
-    level: &mut [u8],
-    low: &mut [u32],
+    packed: &mut [u32],
     high: &mut [u32],
-    head: &mut [u32],
-    next: &mut [u32],
-    memo: &mut [u32],
+    work: &mut [u32],
 ) -> Room
-    requires { ⌜ Ready (holding level low high head next memo room) ⌝ }
+    requires { ⌜ Ready (holding packed high work room) ⌝ }
     requires { ⌜ v ≤ lastLevel ⌝ }
-    ensures { λ r. ⌜ Guards (entering level low high head next memo room) (leaving level low high head next memo r) (v + 1) (guarded v b) f (r .root) ⌝ }
+    ensures { λ r. ⌜ Guards (entering packed high work room) (leaving packed high work r) (v + 1) (guarded v b) f (r .root) ⌝ }
 {
     let lo = pick(b, 0, f);
     let hi = pick(b, f, 0);
-    node(v, lo, hi, room, level, low, high, head, next, memo)
+    node(v, lo, hi, room, packed, high, work)
 }
 
 // f where levels v and w, v the lower one, are equal, and false elsewhere.
@@ -752,20 +701,17 @@ fn pair(
     w: u8,
     f: u32,
     room: Room,
-    level: &mut [u8],
-    low: &mut [u32],
+    packed: &mut [u32],
     high: &mut [u32],
-    head: &mut [u32],
-    next: &mut [u32],
-    memo: &mut [u32],
+    work: &mut [u32],
 ) -> Room
-    requires { ⌜ Ready (holding level low high head next memo room) ⌝ }
+    requires { ⌜ Ready (holding packed high work room) ⌝ }
     requires { ⌜ (v < w) × (w ≤ lastLevel) ⌝ }
-    ensures { λ r. ⌜ Guards (entering level low high head next memo room) (leaving level low high head next memo r) (w + 1) (paired v w) f (r .root) ⌝ }
+    ensures { λ r. ⌜ Guards (entering packed high work room) (leaving packed high work r) (w + 1) (paired v w) f (r .root) ⌝ }
 {
-    let a = guard(w, false, f, room, level, low, high, head, next, memo);
-    let b = guard(w, true, f, a, level, low, high, head, next, memo);
-    node(v, a.root, b.root, b, level, low, high, head, next, memo)
+    let a = guard(w, false, f, room, packed, high, work);
+    let b = guard(w, true, f, a, packed, high, work);
+    node(v, a.root, b.root, b, packed, high, work)
 }
 
 // The number whose w digits stand at the levels v, v + k and so on is `code`.
@@ -775,45 +721,19 @@ pub fn number_is(
     k: u8,
     w: u8,
     room: Room,
-    level: &mut [u8],
-    low: &mut [u32],
+    packed: &mut [u32],
     high: &mut [u32],
-    head: &mut [u32],
-    next: &mut [u32],
-    memo: &mut [u32],
+    work: &mut [u32],
 ) -> Room
-    requires { ⌜ Ready (holding level low high head next memo room) ⌝ }
+    requires { ⌜ Ready (holding packed high work room) ⌝ }
     requires { ⌜ Spaced v k w 1 ⌝ }
-    ensures { λ r. ⌜ Lists (entering level low high head next memo room) (leaving level low high head next memo r) (numberIs v k w code) (r .root) ⌝ }
+    ensures { λ r. ⌜ Lists (entering packed high work room) (leaving packed high work r) (numberIs v k w code) (r .root) ⌝ }
 {
     if w == 0 {
         return constant(code == 0, room);
     }
-    let m = number_is(
-        code / 2,
-        v + k,
-        k,
-        w - 1,
-        room,
-        level,
-        low,
-        high,
-        head,
-        next,
-        memo,
-    );
-    guard(
-        v,
-        code % 2 == 1,
-        m.root,
-        m,
-        level,
-        low,
-        high,
-        head,
-        next,
-        memo,
-    )
+    let m = number_is(code / 2, v + k, k, w - 1, room, packed, high, work);
+    guard(v, code % 2 == 1, m.root, m, packed, high, work)
 }
 
 // It is below n.
@@ -823,47 +743,20 @@ pub fn number_below(
     k: u8,
     w: u8,
     room: Room,
-    level: &mut [u8],
-    low: &mut [u32],
+    packed: &mut [u32],
     high: &mut [u32],
-    head: &mut [u32],
-    next: &mut [u32],
-    memo: &mut [u32],
+    work: &mut [u32],
 ) -> Room
-    requires { ⌜ Ready (holding level low high head next memo room) ⌝ }
+    requires { ⌜ Ready (holding packed high work room) ⌝ }
     requires { ⌜ Spaced v k w 1 ⌝ }
-    ensures { λ r. ⌜ Lists (entering level low high head next memo room) (leaving level low high head next memo r) (numberBelow v k w n) (r .root) ⌝ }
+    ensures { λ r. ⌜ Lists (entering packed high work room) (leaving packed high work r) (numberBelow v k w n) (r .root) ⌝ }
 {
     if w == 0 {
         return constant(0 < n, room);
     }
-    let a = number_below(
-        n / 2 + n % 2,
-        v + k,
-        k,
-        w - 1,
-        room,
-        level,
-        low,
-        high,
-        head,
-        next,
-        memo,
-    );
-    let b = number_below(
-        n / 2,
-        v + k,
-        k,
-        w - 1,
-        a,
-        level,
-        low,
-        high,
-        head,
-        next,
-        memo,
-    );
-    node(v, a.root, b.root, b, level, low, high, head, next, memo)
+    let a = number_below(n / 2 + n % 2, v + k, k, w - 1, room, packed, high, work);
+    let b = number_below(n / 2, v + k, k, w - 1, a, packed, high, work);
+    node(v, a.root, b.root, b, packed, high, work)
 }
 
 // It is the number whose digits stand one level on.
@@ -872,22 +765,19 @@ pub fn numbers_same(
     k: u8,
     w: u8,
     room: Room,
-    level: &mut [u8],
-    low: &mut [u32],
+    packed: &mut [u32],
     high: &mut [u32],
-    head: &mut [u32],
-    next: &mut [u32],
-    memo: &mut [u32],
+    work: &mut [u32],
 ) -> Room
-    requires { ⌜ Ready (holding level low high head next memo room) ⌝ }
+    requires { ⌜ Ready (holding packed high work room) ⌝ }
     requires { ⌜ Spaced v k w 2 ⌝ }
-    ensures { λ r. ⌜ Lists (entering level low high head next memo room) (leaving level low high head next memo r) (numbersSame v k w) (r .root) ⌝ }
+    ensures { λ r. ⌜ Lists (entering packed high work room) (leaving packed high work r) (numbersSame v k w) (r .root) ⌝ }
 {
     if w == 0 {
         return constant(true, room);
     }
-    let m = numbers_same(v + k, k, w - 1, room, level, low, high, head, next, memo);
-    pair(v, v + 1, m.root, m, level, low, high, head, next, memo)
+    let m = numbers_same(v + k, k, w - 1, room, packed, high, work);
+    pair(v, v + 1, m.root, m, packed, high, work)
 }
 
 // Level v = level w.
@@ -895,29 +785,15 @@ pub fn same(
     v: u8,
     w: u8,
     room: Room,
-    level: &mut [u8],
-    low: &mut [u32],
+    packed: &mut [u32],
     high: &mut [u32],
-    head: &mut [u32],
-    next: &mut [u32],
-    memo: &mut [u32],
+    work: &mut [u32],
 ) -> Room
-    requires { ⌜ Ready (holding level low high head next memo room) ⌝ }
+    requires { ⌜ Ready (holding packed high work room) ⌝ }
     requires { ⌜ (v ≤ lastLevel) × (w ≤ lastLevel) × (v ≡ w → ⊥) ⌝ }
-    ensures { λ r. ⌜ Lists (entering level low high head next memo room) (leaving level low high head next memo r) (same v w) (r .root) ⌝ }
+    ensures { λ r. ⌜ Lists (entering packed high work room) (leaving packed high work r) (same v w) (r .root) ⌝ }
 {
-    pair(
-        smaller(v, w),
-        larger(v, w),
-        1,
-        room,
-        level,
-        low,
-        high,
-        head,
-        next,
-        memo,
-    )
+    pair(smaller(v, w), larger(v, w), 1, room, packed, high, work)
 }
 
 // ---- several levels
@@ -928,20 +804,17 @@ pub fn rename(
     v: u8,
     w: u8,
     room: Room,
-    level: &mut [u8],
-    low: &mut [u32],
+    packed: &mut [u32],
     high: &mut [u32],
-    head: &mut [u32],
-    next: &mut [u32],
-    memo: &mut [u32],
+    work: &mut [u32],
 ) -> Room
-    requires { ⌜ Ready (holding level low high head next memo room) ⌝ }
+    requires { ⌜ Ready (holding packed high work room) ⌝ }
     requires { ⌜ (v ≤ lastLevel) × (w ≤ lastLevel) × (v ≡ w → ⊥) ⌝ }
-    ensures { λ r. ⌜ Maps (entering level low high head next memo room) (leaving level low high head next memo r) (renamed v w) f (r .root) ⌝ }
+    ensures { λ r. ⌜ Maps (entering packed high work room) (leaving packed high work r) (renamed v w) f (r .root) ⌝ }
 {
-    let e = same(v, w, room, level, low, high, head, next, memo);
-    let g = and(e.root, f, e, level, low, high, head, next, memo);
-    exists(g.root, v, g, level, low, high, head, next, memo)
+    let e = same(v, w, room, packed, high, work);
+    let g = and(e.root, f, e, packed, high, work);
+    exists(g.root, v, g, packed, high, work)
 }
 
 // The room with another root.
@@ -962,22 +835,19 @@ pub fn exists_from(
     k: u8,
     n: u8,
     room: Room,
-    level: &mut [u8],
-    low: &mut [u32],
+    packed: &mut [u32],
     high: &mut [u32],
-    head: &mut [u32],
-    next: &mut [u32],
-    memo: &mut [u32],
+    work: &mut [u32],
 ) -> Room
-    requires { ⌜ Ready (holding level low high head next memo room) ⌝ }
+    requires { ⌜ Ready (holding packed high work room) ⌝ }
     requires { ⌜ Spaced v k n 1 ⌝ }
-    ensures { λ r. ⌜ Maps (entering level low high head next memo room) (leaving level low high head next memo r) (some-from v k n) f (r .root) ⌝ }
+    ensures { λ r. ⌜ Maps (entering packed high work room) (leaving packed high work r) (some-from v k n) f (r .root) ⌝ }
 {
     if n == 0 {
         return with_root(room, f);
     }
-    let m = exists_from(f, v + k, k, n - 1, room, level, low, high, head, next, memo);
-    exists(m.root, v, m, level, low, high, head, next, memo)
+    let m = exists_from(f, v + k, k, n - 1, room, packed, high, work);
+    exists(m.root, v, m, packed, high, work)
 }
 
 // The n levels v, v + k and so on renamed to w, w + k and so on, highest first.
@@ -988,35 +858,19 @@ pub fn rename_from(
     k: u8,
     n: u8,
     room: Room,
-    level: &mut [u8],
-    low: &mut [u32],
+    packed: &mut [u32],
     high: &mut [u32],
-    head: &mut [u32],
-    next: &mut [u32],
-    memo: &mut [u32],
+    work: &mut [u32],
 ) -> Room
-    requires { ⌜ Ready (holding level low high head next memo room) ⌝ }
+    requires { ⌜ Ready (holding packed high work room) ⌝ }
     requires { ⌜ (v ≡ w → ⊥) × Spaced v k n 1 × Spaced w k n 1 ⌝ }
-    ensures { λ r. ⌜ Maps (entering level low high head next memo room) (leaving level low high head next memo r) (renamed-from v w k n) f (r .root) ⌝ }
+    ensures { λ r. ⌜ Maps (entering packed high work room) (leaving packed high work r) (renamed-from v w k n) f (r .root) ⌝ }
 {
     if n == 0 {
         return with_root(room, f);
     }
-    let m = rename_from(
-        f,
-        v + k,
-        w + k,
-        k,
-        n - 1,
-        room,
-        level,
-        low,
-        high,
-        head,
-        next,
-        memo,
-    );
-    rename(m.root, v, w, m, level, low, high, head, next, memo)
+    let m = rename_from(f, v + k, w + k, k, n - 1, room, packed, high, work);
+    rename(m.root, v, w, m, packed, high, work)
 }
 
 // Binary digit k of n.
@@ -1038,31 +892,25 @@ pub fn fix_below(
     n: u8,
     c: u32,
     room: Room,
-    level: &mut [u8],
-    low: &mut [u32],
+    packed: &mut [u32],
     high: &mut [u32],
-    head: &mut [u32],
-    next: &mut [u32],
-    memo: &mut [u32],
+    work: &mut [u32],
 ) -> Room
-    requires { ⌜ Ready (holding level low high head next memo room) ⌝ }
+    requires { ⌜ Ready (holding packed high work room) ⌝ }
     requires { ⌜ n ≤ lastLevel ⌝ }
-    ensures { λ r. ⌜ Maps (entering level low high head next memo room) (leaving level low high head next memo r) (fix-below n c) f (r .root) ⌝ }
+    ensures { λ r. ⌜ Maps (entering packed high work room) (leaving packed high work r) (fix-below n c) f (r .root) ⌝ }
 {
     if n == 0 {
         return with_root(room, f);
     }
-    let m = fix_below(f, n - 1, c, room, level, low, high, head, next, memo);
+    let m = fix_below(f, n - 1, c, room, packed, high, work);
     fix(
         m.root,
         n - 1,
         digit_at(c as u64, n - 1),
         m,
-        level,
-        low,
+        packed,
         high,
-        head,
-        next,
-        memo,
+        work,
     )
 }

@@ -63,6 +63,7 @@ fn write(answer: Answer, words: &mut [u64]) -> u64
 }
 
 // Compares two models: 0 equal, 1 different, 2 refused, with the answer's six words; 3 where answer has fewer, and then nothing is touched.
+// All work is done in `memo`; `head` and `next` are never touched.
 #[no_mangle]
 pub extern "C" fn seipolku_compare(
     left: &[u8],
@@ -82,7 +83,7 @@ pub extern "C" fn seipolku_compare(
     if answer.len() < 6 {
         return 3;
     }
-    let a = compare(left, right, mode, limit, level, low, high, head, next, memo);
+    let a = compare(left, right, mode, limit, level, low, high, memo);
     write(a, answer)
 }
 

@@ -92,9 +92,7 @@ fn show(name: &[u8], text: &[u8], n: u64) {
     let mut level = [0u8; 16384];
     let mut low = [0u32; 16384];
     let mut high = [0u32; 16384];
-    let mut head = [0u32; 4096];
-    let mut next = [0u32; 16384];
-    let mut memo = [0u32; 16384];
+    let mut work = [0u32; 65536];
     let answer = compare(
         text,
         text,
@@ -103,9 +101,7 @@ fn show(name: &[u8], text: &[u8], n: u64) {
         &mut level,
         &mut low,
         &mut high,
-        &mut head,
-        &mut next,
-        &mut memo,
+        &mut work,
     );
     if let Answer::Equal {
         left,
