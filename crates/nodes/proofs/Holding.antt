@@ -125,11 +125,12 @@ module _ (work : List ℕ) (used v lo hi : ℕ) where
     pub work-linked : Linking work used v lo hi (set (set work used (getD work (quarter work + h) 0)) (quarter work + h) used)
     unfolding first old
     work-linked =
-        let n = heads-length work in
-        (subst₂ (Linked (headsIn work) (linksIn work) used v lo hi) (sym heads-are) (sym links-are)
-        (linked-at (headsIn work) (linksIn work) used v lo hi h (λ z. omega arith) (let m = links-length work in omega arith)
-        (subst (λ (k : ℕ). h ≡ hashOf v lo hi k) (sym n) hash) (subst (λ (k : ℕ). h < k) (sym n) below)),
-        memo-is)
+        let n = heads-length work in (
+          subst₂ (Linked (headsIn work) (linksIn work) used v lo hi) (sym heads-are) (sym links-are)
+              (linked-at (headsIn work) (linksIn work) used v lo hi h (λ z. omega arith) (let m = links-length work in omega arith)
+              (subst (λ (k : ℕ). h ≡ hashOf v lo hi k) (sym n) hash) (subst (λ (k : ℕ). h < k) (sym n) below)),
+          memo-is,
+        )
 
 -- ---- the memory of results
 
@@ -211,11 +212,12 @@ module _ (packed high : List ℕ) (used v lo hi : ℕ) (ok : Makeable (packed-ta
     pub packed-new : (work work′ : List ℕ) → used < length packed → Indexing here work → Linking work used v lo hi work′
         → Making here (set packed used (packing v lo)) (set high used hi) work work′ (nodeFun here v lo hi) (made.At used (used + 1))
     packed-new work work′ room index link =
-        let inside : used < length (levels packed) = subst (λ (n : ℕ). used < n) (sym (levels-length packed)) room in
-        (subst₂ (λ (level low : List ℕ). Makes here level low (set high used hi) (headsIn work′) (linksIn work′) (nodeFun here v lo hi) (made.At used (used + 1)))
-        (sym (levels-set packed used v lo child-small)) (sym (lows-set packed used v lo child-small))
-        (made-new here v lo hi ok differ none inside, made-linked here v lo hi ok differ none inside (headsIn work) (linksIn work) (headsIn work′) (linksIn work′) index (link .0)),
-        link .1)
+        let inside : used < length (levels packed) = subst (λ (n : ℕ). used < n) (sym (levels-length packed)) room in (
+          subst₂ (λ (level low : List ℕ). Makes here level low (set high used hi) (headsIn work′) (linksIn work′) (nodeFun here v lo hi) (made.At used (used + 1)))
+              (sym (levels-set packed used v lo child-small)) (sym (lows-set packed used v lo child-small))
+              (made-new here v lo hi ok differ none inside, made-linked here v lo hi ok differ none inside (headsIn work) (linksIn work) (headsIn work′) (linksIn work′) index (link .0)),
+          link .1,
+        )
 
     pub packed-full : length packed ≤ used → MadeFull here (levels packed) (lows packed) high (nodeFun here v lo hi)
     packed-full h = made-full here v lo hi ok differ none (subst (λ (n : ℕ). n ≤ used) (sym (levels-length packed)) h)
