@@ -23,16 +23,16 @@ use Rattle.nodes.specs.Packed.{levels, lows, packed-table}
 use Rattle.nodes.specs.Parts.{headsIn, linksIn, memoIn}
 use Rattle.nodes.specs.Index.{Indexed, Indexing}
 use Rattle.nodes.specs.Make.{Makeable, nodeFun, Making}
-use Rattle.nodes.specs.Operate.{operation, Operands, Cofactor, Quantified, quantifying, Recalls, Remembered, Stores, Keeping, Helping, Operating}
+use Rattle.nodes.specs.Operate.{operation, Operands, cofactorOf, Cofactor, Quantified, quantifying, Recalls, Remembered, Stores, Keeping, Helping, Operating}
 use Rattle.nodes.specs.Work.{Added, Has, Lacks, Store, store, roomOf, Ready, After, Does, stayed, grew, filled, Stands, Gives, Maps}
-use Rattle.nodes.specs.Quantify.{Funs, listed, results-of, Entry, Trebled, Quantifiable, MakeableThree, nodeFuns, RecalledThree, LacksThree, FinishingThree, Quantifying, anyOf}
+use Rattle.nodes.specs.Quantify.{Funs, listed, results-of, Entry, Trebled, Quantifiable, MakeableThree, nodeFuns, RecalledThree, LacksThree, MakingThree, FinishingThree, Quantifying, anyOf}
 use Rattle.nodes.proofs.Funs.{shannon, from-le, from-put, from-fixed, part-fixed, part-refl}
 use Rattle.nodes.proofs.Parting.{levels-length}
 use Rattle.nodes.proofs.Tables.{den-from, den-extends}
 use Rattle.nodes.proofs.Making.{extends-refl, answered}
 use Rattle.nodes.proofs.Growing.{extends-trans}
 use Rattle.nodes.proofs.Stepping.{level-above}
-use Rattle.nodes.proofs.Operating.{operation-or, put-put, from-fixed-at}
+use Rattle.nodes.proofs.Operating.{cofactor, operation-or, put-put, from-fixed-at}
 use Rattle.nodes.proofs.Memory.{recalls, remembered-extends, remembered-stores}
 use Rattle.nodes.proofs.Working.{Within, added-none, added-then, added-within, lacks-within, grows-built, lacks-short, contrary, does-then}
 
@@ -138,6 +138,15 @@ made-three {h = h} {i} {j} x y z = record {
   any = z .entry;
 }
 
+-- three nodes that are made, and remembered
+pub finished-three : (t : Table) (packed high work work₁ work₂ : List ℕ) (h : Funs) (o : ℕ) (r : Trio) (n : ℕ) → MakingThree t packed high work work₁ h (three.At r n)
+    → Keeping work₁ o (r .zero) (r .one) (r .any) work₂ → FinishingThree t packed high work work₂ h o (three.At r n)
+finished-three t packed high work work₁ work₂ h o r n m k = (
+  m .0,
+  subst₂ (Indexed (packed-table packed high n)) (sym (k .1)) (sym (k .2)) (m .1),
+  subst (λ (l : List ℕ). Stores l o (r .zero) (r .one) (r .any) (memoIn work₂)) (m .2) (k .0),
+)
+
 -- ---- the results of ∃v F
 
 module _ (v : ℕ) (F : Fun) where
@@ -171,6 +180,14 @@ module _ (v : ℕ) (F : Fun) where
         (subst (Part (exists v F)) (sym exists-turned) (part-fixed (from-exists ff) b))
 
 -- ---- an entry that does not read v, or has it on top
+
+-- an entry with a level fixed that it may have on top
+module _ (t : Table) (v f : ℕ) (ok : Quantifiable t v f) (l : ℕ) (most : l ≤ lastLevel) (top : l ≤ levelOf t f) where
+  pub low-fixed : (i : ℕ) → i ≡ cofactorOf (t .level) (t .low) f l → Cofactor t f l false i
+  low-fixed i e = subst (Cofactor t f l false) (sym e) (cofactor t (ok .formed) f (ok .used) false l most top)
+
+  pub high-fixed : (i : ℕ) → i ≡ cofactorOf (t .level) (t .high) f l → Cofactor t f l true i
+  high-fixed i e = subst (Cofactor t f l true) (sym e) (cofactor t (ok .formed) f (ok .used) true l most top)
 
 module _ (t : Table) (v f : ℕ) (ok : Quantifiable t v f) where
   abbrev F : Fun

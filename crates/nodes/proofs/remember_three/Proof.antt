@@ -1,54 +1,33 @@
+-- `nodes::remember_three` meets its contract, by that of `write_slot`. Assumes nothing.
 use borrow.Author.Needs.{needs}
+use mathlib.Core.Path.{subst}
+use Prim.Native.Nat.{ℕ}
+use Rattle.nodes.specs.Operate.{Keeping}
+use Rattle.nodes.proofs.Holding.{work-kept}
 use Rattle.nodes.proofs.remember_three.Statement.{statement}
 use Rattle.nodes.proofs.remember_three.Tie as tie
-use Rattle.nodes.proofs.remember_three.Reads as reads
-use Rattle.nodes.proofs.remember_three.Lts as lts
-use Rattle.nodes.proofs.hash.Reads as hash-reads
-use Rattle.nodes.proofs.number_of.Reads as number-of-reads
-use Rattle.nodes.proofs.slots.Reads as slots-reads
-use Rattle.nodes.proofs.write_slot.Reads as write-slot-reads
 
--- src/lib.rt:498:9
-slots-requires : tie.Need-slots-requires
-slots-requires c κs = search needs
-
--- src/lib.rt:500:9
-same-length : tie.Need-same-length
-same-length c = search needs
-
--- src/lib.rt:500:9
 returns : tie.Need-returns
-returns c = ?
+returns c = work-kept _ _ _ _ _
 
--- src/lib.rt:502:9
-hash-requires : tie.Need-hash-requires
-hash-requires c κs = search needs
-
--- src/lib.rt:503:9
-number-of-requires : tie.Need-number-of-requires
-number-of-requires c κs = search needs
-
--- src/lib.rt:504:5
-write-slot-requires : tie.Need-write-slot-requires
-write-slot-requires c κs = search needs
-
--- src/lib.rt:494:1
-same-length-2 : tie.Need-same-length-2
-same-length-2 c = search needs
-
--- src/lib.rt:494:1
 returns-2 : tie.Need-returns-2
-returns-2 c = ?
+returns-2 c =
+    let c3 = c .before .before in
+    let c2 = c3 .before .before in
+    let c0 = c2 .before .before .before .before .before .before in
+    let a = c0 .args in
+    let w = c3 .write-slot in
+    subst (λ (o : ℕ). Keeping (a .work .now) o (a .r .zero) (a .r .one) (a .r .any) (w .last .0)) (c2 .number-of .ensures .0) (w .ensures)
 
 pub remember-three-spec : {M : Type 1} → statement M
 remember-three-spec =
     tie.close
     (tie.spec
-    slots-requires
-    same-length
+    (λ c κs. search needs)
+    (λ c. search needs)
     returns
-    hash-requires
-    number-of-requires
-    write-slot-requires
-    same-length-2
+    (λ c κs. search needs)
+    (λ c κs. search needs)
+    (λ c κs. search needs)
+    (λ c. search needs)
     returns-2)
