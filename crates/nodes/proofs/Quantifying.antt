@@ -12,6 +12,7 @@ use native.Mathlib.Omega.{arith}
 use lib.ListN.{length}
 use Rattle.nodes.specs.declared.Made.{Made}
 use Rattle.nodes.specs.declared.Made.the-variants as made
+use Rattle.nodes.specs.declared.Room.{Room}
 use Rattle.nodes.specs.declared.Trio.{Trio}
 use Rattle.nodes.specs.declared.Three.{Three}
 use Rattle.nodes.specs.declared.Three.the-variants as three
@@ -24,7 +25,7 @@ use Rattle.nodes.specs.Parts.{headsIn, linksIn, memoIn}
 use Rattle.nodes.specs.Index.{Indexed, Indexing}
 use Rattle.nodes.specs.Make.{Makeable, nodeFun, Making}
 use Rattle.nodes.specs.Operate.{operation, Operands, cofactorOf, Cofactor, Quantified, quantifying, Recalls, Remembered, Stores, Keeping, Helping, Operating}
-use Rattle.nodes.specs.Work.{Added, Has, Lacks, Store, store, roomOf, Ready, After, Does, stayed, grew, filled, Stands, Gives, Maps}
+use Rattle.nodes.specs.Work.{Added, Has, Lacks, Store, store, roomOf, appliesTo, Ready, Keeps, After, Does, stayed, grew, filled, Stands, Gives, Maps}
 use Rattle.nodes.specs.Quantify.{Funs, listed, results-of, Entry, Trebled, Quantifiable, MakeableThree, nodeFuns, RecalledThree, LacksThree, MakingThree, FinishingThree, Quantifying, anyOf}
 use Rattle.nodes.proofs.Funs.{shannon, from-le, from-put, from-fixed, part-fixed, part-refl}
 use Rattle.nodes.proofs.Parting.{levels-length}
@@ -34,7 +35,7 @@ use Rattle.nodes.proofs.Growing.{extends-trans}
 use Rattle.nodes.proofs.Stepping.{level-above}
 use Rattle.nodes.proofs.Operating.{cofactor, operation-or, put-put, from-fixed-at}
 use Rattle.nodes.proofs.Memory.{recalls, remembered-extends, remembered-stores}
-use Rattle.nodes.proofs.Working.{Within, added-none, added-then, added-within, lacks-within, grows-built, lacks-short, contrary, does-then}
+use Rattle.nodes.proofs.Working.{Within, added-none, added-then, added-within, lacks-within, grows-built, lacks-short, contrary, does-then, after-none, is-full}
 
 -- ---- lists of three functions
 
@@ -223,13 +224,15 @@ module _ (t : Table) (v f : ℕ) (ok : Quantifiable t v f) where
         → Quantifying t packed′ high′ work′ v F (three.At (record { zero = z; one = w; any = i }) n)
     settle-joined packed′ high′ work′ i n x =
         let b = x .0 in
-        let kept = entry-kept (ok .formed) (b .grown .extends) in
-        (record {
-          added = added-within settle-within (grows-built (ok .formed) b .added);
-          zero = kept z (fixed v false F) (low .used, low .stands);
-          one = kept w (fixed v true F) (high .used, high .stands);
-          any = (b .found, b .stands ∙ settle-fun);
-        }, x .1)
+        let kept = entry-kept (ok .formed) (b .grown .extends) in (
+          record {
+            added = added-within settle-within (grows-built (ok .formed) b .added);
+            zero = kept z (fixed v false F) (low .used, low .stands);
+            one = kept w (fixed v true F) (high .used, high .stands);
+            any = (b .found, b .stands ∙ settle-fun);
+          },
+          x .1,
+        )
 
     pub settle-lacks : (packed′ high′ work′ : List ℕ) → Operating t packed′ high′ work′ (operation 1 (den t z) (den t w)) made.Full
         → LacksThree t packed′ high′ (results-of v F)
@@ -408,12 +411,14 @@ module _ (t : Table) (v f : ℕ) (ok : Quantifiable t v f) where
               zero = y .zero;
               one = y .one;
               any = y .any;
-            } in
-            (z, record {
-              indexed = x .1;
-              remembered = remembered-stores t₃ (memoIn work) (memoIn work′) (quantifying v f) (r .zero) (r .one) (r .any)
-                  (remembered-extends t₂ t₃ (second .added .formed) (y .added .extends) (memoIn work) rem) (recalled t₃ r z) (x .2);
-            })
+            } in (
+              z,
+              record {
+                indexed = x .1;
+                remembered = remembered-stores t₃ (memoIn work) (memoIn work′) (quantifying v f) (r .zero) (r .one) (r .any)
+                    (remembered-extends t₂ t₃ (second .added .formed) (y .added .extends) (memoIn work) rem) (recalled t₃ r z) (x .2);
+              },
+            )
         quantify-answers packed high work work′ rem three.Full x =
             lacks-after (within-same H) (within-same H) added-2 (subst (LacksThree t₂ packed high) same-funs x)
 
@@ -444,9 +449,27 @@ module _ (s : Store) (packed high work : List ℕ) (v : ℕ) where
       (filled e refl (subst (λ (n : ℕ). Lacks (s .table) (packed-table packed high n) (listed (results-of v F))) (levels-length packed) x), λ o. contrary refl o)
 
 -- the three functions are listed with ∃
-pub quantified-maps : {s s′ : Store} (v f i : ℕ) → After s s′
+quantified-maps : {s s′ : Store} (v f i : ℕ) → After s s′
     → ((F : Fun) → Stands s f F → Does s s′ (listed (results-of v F)) × Stands s′ i (exists v F)) → Maps s s′ (some v) f i
 quantified-maps v f i a x = record {
   after = a;
   gives = λ {s₀} {φ} p. let (d, e) = x (value φ) (p .stands) in record { does = does-then (p .does) d; stands = e };
 }
+
+pub not-exists-maps : (packed high work : List ℕ) (room : Room) (v f : ℕ) → Ready (store packed high work room) → appliesTo room f f ≡ false
+    → Maps (store packed high work room) (store packed high work room) (some v) f (room .root)
+not-exists-maps packed high work room v f r e =
+    quantified-maps v f (room .root) (after-none r) (λ F x. let q = is-full packed high work room f f e x x in (stayed q refl, λ o. contrary q o))
+
+pub exists-maps : (s : Store) (packed high work : List ℕ) (v f : ℕ) → s .full ≡ false → Keeps s (store packed high work (roomOf made.Full 0)) → (r : Three)
+    → Quantifying (s .table) packed high work v (den (s .table) f) r
+    → Maps s (after s packed high work v r) (some v) f (roomOf (anyOf r) (length packed) .root)
+exists-maps s packed high work v f e k r x =
+    quantified-maps v f (roomOf (anyOf r) (length packed) .root)
+    (record {
+      ready = quantified-ready s packed high work v (den (s .table) f) r x;
+      kept = record { packed = k .packed; high = k .high; work = k .work };
+    })
+    (λ F y. subst (λ (G : Fun). Does s (after s packed high work v r) (listed (results-of v G))
+    × Stands (after s packed high work v r) (roomOf (anyOf r) (length packed) .root) (exists v G)) (y e .1)
+    (quantified s packed high work v e (den (s .table) f) r x))

@@ -130,9 +130,10 @@ quantify-requires u c κs =
     let f0 = c4 .low-cofactor .result in
     let f1 = c5 .high-cofactor .result in
     let low = low-fixed t (a .v) (a .f) (pre .0) l (omega (arith, pre .0 .in-range)) (omega arith) f0 (c4 .low-cofactor .ensures) in
-    let high = high-fixed t (a .v) (a .f) (pre .0) l (omega (arith, pre .0 .in-range)) (omega arith) f1 (c5 .high-cofactor .ensures) in
-    (subst (λ (n : ℕ). f0 < n) (c0 .pre .0) (falls-low t (a .v) (a .f) (pre .0) l top above f0 f1 low high),
-    (quantify-low t (a .v) (a .f) (pre .0) l top above f0 f1 low high, pre .1))
+    let high = high-fixed t (a .v) (a .f) (pre .0) l (omega (arith, pre .0 .in-range)) (omega arith) f1 (c5 .high-cofactor .ensures) in (
+      subst (λ (n : ℕ). f0 < n) (c0 .pre .0) (falls-low t (a .v) (a .f) (pre .0) l top above f0 f1 low high),
+      (quantify-low t (a .v) (a .f) (pre .0) l top above f0 f1 low high, pre .1),
+    )
 
 returns-3 : (t : ℕ) → lts.Need-returns-3 (claims t) (given-at t) quantify.Post
 returns-3 u c =
@@ -177,9 +178,10 @@ quantify-requires-2 u c κs =
     let high = high-fixed t (a .v) (a .f) (pre .0) l (omega (arith, pre .0 .in-range)) (omega arith) f1 (c5 .high-cofactor .ensures) in
     let one = c6 .quantify .last in
     let said = subst (Quantifying t (one .0) (one .1 .0) (one .1 .1 .0) (a .v) (den t f0)) (c7 .a .given .1) (c6 .quantify .ensures) in
-    let t₁ = packed-table (one .0) (one .1 .0) (c7 .a .given .0 .1 .0) in
-    (subst (λ (n : ℕ). f1 < n) (c0 .pre .0) (falls-high t (a .v) (a .f) (pre .0) l top above f0 f1 low high),
-    (quantify-high t (a .v) (a .f) (pre .0) l top above f0 f1 low high t₁ (c7 .a .given .0 .0) (said .0), said .1))
+    let t₁ = packed-table (one .0) (one .1 .0) (c7 .a .given .0 .1 .0) in (
+      subst (λ (n : ℕ). f1 < n) (c0 .pre .0) (falls-high t (a .v) (a .f) (pre .0) l top above f0 f1 low high),
+      (quantify-high t (a .v) (a .f) (pre .0) l top above f0 f1 low high t₁ (c7 .a .given .0 .0) (said .0), said .1),
+    )
 
 returns-4 : (t : ℕ) → lts.Need-returns-4 (claims t) (given-at t) quantify.Post
 returns-4 u c =
