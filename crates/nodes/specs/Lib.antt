@@ -9,6 +9,7 @@ pub mod Make
 pub mod Operate
 pub mod Start
 pub mod Work
+pub mod Quantify
 pub mod Lent
 pub mod Single
 pub mod Lookup

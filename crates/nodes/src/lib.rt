@@ -10,14 +10,15 @@ ghost use lib.ListN.{length, getD, set};
 ghost use Rattle.nodes.specs.Fun.{both, either, negated, fixed, same};
 ghost use Rattle.nodes.specs.Packed.{levels, lows, packed-table};
 ghost use Rattle.nodes.specs.Parts.{linksIn, headsIn, memoIn};
-ghost use Rattle.nodes.specs.Operate.{operation, lastOperation, Operands, SettlesBy, Settles, cofactorOf, Splits, Recalled, Keeping, Finishing, Helping, Operating};
+ghost use Rattle.nodes.specs.Operate.{operation, lastOperation, Operands, slotsIn, lastNumber, quantifying, SettlesBy, Settles, cofactorOf, Splits, Recalled, Keeping, Finishing, Helping, Operating};
 ghost use Rattle.nodes.specs.Start.{Clear, Fits, Starts, Unpackable, Unpacks};
-ghost use Rattle.nodes.specs.Table.{maxLength, lastLevel, den, WellFormed};
+ghost use Rattle.nodes.specs.Table.{maxLength, lastLevel, levelOf, den, WellFormed};
 ghost use Rattle.nodes.specs.Index.{hashOf, coverage, Indexing, Linking};
 ghost use Rattle.nodes.specs.Make.{Makeable, FindsFrom, FindsBelow, Finds, Making, nodeFun};
 ghost use Rattle.nodes.specs.Formula.{_∧′_, _∨′_, ¬′_, fix, some, some-from, renamed, renamed-from, bit, fix-below};
 ghost use Rattle.nodes.specs.Single.{digit, rooted, guarded, paired, Guards, Spaced, numberIs, numberBelow, numbersSame};
 ghost use Rattle.nodes.specs.Lent.{holding, entering, leaving, table-of, table-in};
+ghost use Rattle.nodes.specs.Quantify.{Quantifiable, MakeableThree, nodeFuns, RecalledThree, MakingThree, FinishingThree, Quantifying, anyOf};
 ghost use Rattle.nodes.specs.Work.{roomOf, appliesTo, fixingOf, isDeeper, Ready, Applies, Lists, Joins, Maps, Chooses};
 
 // The answer of an operation: the entry of its result with the number of entries then in use, or
@@ -334,17 +335,23 @@ fn split_at_top(packed: &[u32], high: &[u32], used: u32, op: u32, f: u32, g: u32
     }
 }
 
+// How many slots the memory has.
+fn slots(work: &[u32]) -> usize
+    ensures { λ r. ⌜ r ≡ slotsIn (now (work .entry)) ⌝ }
+{
+    (work.len() - 2 * (work.len() / 4)) / 4
+}
+
 // The result of an operation, where the memory has it.
 fn recall(work: &[u32], op: u32, f: u32, g: u32) -> Found
     requires { ⌜ op ≤ lastOperation ⌝ }
     ensures { λ r. ⌜ Recalled (memoIn (now (work .entry))) op f g r ⌝ }
 {
-    let from = 2 * (work.len() / 4);
-    let n = (work.len() - from) / 4;
+    let n = slots(work);
     if n == 0 {
         return Found::Nothing;
     }
-    let at = from + 4 * hash(op, f, g, n);
+    let at = 2 * (work.len() / 4) + 4 * hash(op, f, g, n);
     if work[at] == op + 1 {
         if work[at + 1] == f {
             if work[at + 2] == g {
@@ -355,21 +362,29 @@ fn recall(work: &[u32], op: u32, f: u32, g: u32) -> Found
     Found::Nothing
 }
 
-// Puts the result r of an operation into the memory, in the place of what was there.
-fn remember(work: &mut [u32], op: u32, f: u32, g: u32, r: u32)
-    requires { ⌜ op ≤ lastOperation ⌝ }
+// Writes a result to slot s of the memory, in the place of what was there.
+fn write_slot(work: &mut [u32], s: usize, op: u32, f: u32, g: u32, r: u32)
+    requires { ⌜ (s < slotsIn (now work)) × (op ≤ lastNumber) ⌝ }
     ensures { λ _. ⌜ Keeping (now (work .entry)) op f g r (now (work .exit)) ⌝ }
 {
-    let from = 2 * (work.len() / 4);
-    let n = (work.len() - from) / 4;
-    if n == 0 {
-        return;
-    }
-    let at = from + 4 * hash(op, f, g, n);
+    let at = 2 * (work.len() / 4) + 4 * s;
     work[at] = op + 1;
     work[at + 1] = f;
     work[at + 2] = g;
     work[at + 3] = r;
+}
+
+// Puts the result r of an operation into the memory.
+fn remember(work: &mut [u32], op: u32, f: u32, g: u32, r: u32)
+    requires { ⌜ op ≤ lastOperation ⌝ }
+    ensures { λ _. ⌜ Keeping (now (work .entry)) op f g r (now (work .exit)) ⌝ }
+{
+    let n = slots(work);
+    if n == 0 {
+        return;
+    }
+    let s = hash(op, f, g, n);
+    write_slot(work, s, op, f, g, r);
 }
 
 // Makes the node of v, a and b, and remembers it as the result of an operation.
@@ -425,6 +440,182 @@ pub fn operate(
         return Made::Full;
     };
     finish(packed, high, work, m, s.v, a, b, op, f, g)
+}
+
+// ---- ∃ of a level
+
+// The entries of a function with a level fixed to 0, fixed to 1, and of the ∨ of the two.
+pub struct Trio {
+    pub zero: u32,
+    pub one: u32,
+    pub any: u32,
+}
+
+// The answer of ∃: the entries with the number of entries then in use, or that the table is too short.
+pub enum Three {
+    At(Trio, u32),
+    Full,
+}
+
+pub enum Held {
+    At(Trio),
+    Nothing,
+}
+
+// The number under which the memory has the results of ∃v f: no operation's.
+fn number_of(v: u8, f: u32) -> u32
+    requires { ⌜ (v ≤ lastLevel) × (f < maxLength) ⌝ }
+    ensures { λ r. ⌜ (r ≡ quantifying v f) × (r ≤ lastNumber) ⌝ }
+{
+    255 + (v as u32) + f * 128
+}
+
+// The results of ∃v f, where the memory has them.
+fn recall_three(work: &[u32], v: u8, f: u32) -> Held
+    requires { ⌜ (v ≤ lastLevel) × (f < maxLength) ⌝ }
+    ensures { λ r. ⌜ RecalledThree (memoIn (now (work .entry))) (quantifying v f) r ⌝ }
+{
+    let n = slots(work);
+    if n == 0 {
+        return Held::Nothing;
+    }
+    let at = 2 * (work.len() / 4) + 4 * hash(v as u32, f, 0, n);
+    if work[at] == number_of(v, f) + 1 {
+        return Held::At(Trio {
+            zero: work[at + 1],
+            one: work[at + 2],
+            any: work[at + 3],
+        });
+    }
+    Held::Nothing
+}
+
+// Puts the results of ∃v f into the memory.
+fn remember_three(work: &mut [u32], v: u8, f: u32, r: Trio)
+    requires { ⌜ (v ≤ lastLevel) × (f < maxLength) ⌝ }
+    ensures { λ _. ⌜ Keeping (now (work .entry)) (quantifying v f) (r .zero) (r .one) (r .any) (now (work .exit)) ⌝ }
+{
+    let n = slots(work);
+    if n == 0 {
+        return;
+    }
+    let s = hash(v as u32, f, 0, n);
+    let number = number_of(v, f);
+    write_slot(work, s, number, r.zero, r.one, r.any);
+}
+
+// Makes the three nodes of level l whose children are the entries of a and of b.
+fn make_three(
+    packed: &mut [u32],
+    high: &mut [u32],
+    work: &mut [u32],
+    used: u32,
+    l: u8,
+    a: Trio,
+    b: Trio,
+) -> Three
+    requires { ⌜ MakeableThree (table-of packed high used) l a b ⌝ }
+    requires { ⌜ Indexing (table-of packed high used) (now work) ⌝ }
+    ensures { λ r. ⌜ MakingThree (table-in packed high used) (now (packed .exit)) (now (high .exit)) (now (work .entry)) (now (work .exit)) (nodeFuns (table-in packed high used) l a b) r ⌝ }
+{
+    let Made::At(zero, n) = make(packed, high, work, used, l, a.zero, b.zero) else {
+        return Three::Full;
+    };
+    let Made::At(one, m) = make(packed, high, work, n, l, a.one, b.one) else {
+        return Three::Full;
+    };
+    let Made::At(any, k) = make(packed, high, work, m, l, a.any, b.any) else {
+        return Three::Full;
+    };
+    Three::At(Trio { zero, one, any }, k)
+}
+
+// Makes them, and remembers them as the results of ∃v f.
+fn finish_three(
+    packed: &mut [u32],
+    high: &mut [u32],
+    work: &mut [u32],
+    used: u32,
+    l: u8,
+    a: Trio,
+    b: Trio,
+    v: u8,
+    f: u32,
+) -> Three
+    requires { ⌜ MakeableThree (table-of packed high used) l a b ⌝ }
+    requires { ⌜ Indexing (table-of packed high used) (now work) ⌝ }
+    requires { ⌜ (v ≤ lastLevel) × (f < maxLength) ⌝ }
+    ensures { λ r. ⌜ FinishingThree (table-in packed high used) (now (packed .exit)) (now (high .exit)) (now (work .entry)) (now (work .exit)) (nodeFuns (table-in packed high used) l a b) (quantifying v f) r ⌝ }
+{
+    let Three::At(r, n) = make_three(packed, high, work, used, l, a, b) else {
+        return Three::Full;
+    };
+    remember_three(work, v, f, r);
+    Three::At(r, n)
+}
+
+// The results of ∃v f, where f's level l is v or above it: f itself, or its children and their ∨.
+fn settle_three(
+    packed: &mut [u32],
+    high: &mut [u32],
+    work: &mut [u32],
+    used: u32,
+    v: u8,
+    f: u32,
+    l: u8,
+) -> Three
+    requires { ⌜ Quantifiable (table-of packed high used) v f ⌝ }
+    requires { ⌜ Helping (table-of packed high used) (now work) ⌝ }
+    requires { ⌜ (l ≡ levelOf (table-of packed high used) f) × (v ≤ l) ⌝ }
+    ensures { λ r. ⌜ Quantifying (table-in packed high used) (now (packed .exit)) (now (high .exit)) (now (work .exit)) v (den (table-in packed high used) f) r ⌝ }
+{
+    if v < l {
+        return Three::At(
+            Trio {
+                zero: f,
+                one: f,
+                any: f,
+            },
+            used,
+        );
+    }
+    let zero = low_cofactor(packed, f, v);
+    let one = high_cofactor(packed, high, f, v);
+    let Made::At(any, n) = operate(packed, high, work, used, 1, zero, one) else {
+        return Three::Full;
+    };
+    Three::At(Trio { zero, one, any }, n)
+}
+
+// The entries of what f stands for with level v fixed to 0, fixed to 1, and of ∃v.
+fn quantify(
+    packed: &mut [u32],
+    high: &mut [u32],
+    work: &mut [u32],
+    used: u32,
+    v: u8,
+    f: u32,
+) -> Three
+    requires { ⌜ Quantifiable (table-of packed high used) v f ⌝ }
+    requires { ⌜ Helping (table-of packed high used) (now work) ⌝ }
+    ensures { λ r. ⌜ Quantifying (table-in packed high used) (now (packed .exit)) (now (high .exit)) (now (work .exit)) v (den (table-in packed high used) f) r ⌝ }
+{
+    let l = level_of(packed, f);
+    if v <= l {
+        return settle_three(packed, high, work, used, v, f, l);
+    }
+    if let Held::At(r) = recall_three(work, v, f) {
+        return Three::At(r, used);
+    }
+    let f0 = low_cofactor(packed, f, l);
+    let f1 = high_cofactor(packed, high, f, l);
+    let Three::At(a, n) = quantify(packed, high, work, used, v, f0) else {
+        return Three::Full;
+    };
+    let Three::At(b, m) = quantify(packed, high, work, n, v, f1) else {
+        return Three::Full;
+    };
+    finish_three(packed, high, work, m, l, a, b, v, f)
 }
 
 // Sets every number of s to 0.
@@ -593,6 +784,16 @@ pub fn fix(
     apply(fixing(v, b), f, 0, room, packed, high, work)
 }
 
+// The ∨ alone of the answer of ∃.
+fn any_of(r: Three) -> Made
+    ensures { λ m. ⌜ m ≡ anyOf r ⌝ }
+{
+    match r {
+        Three::At(t, used) => Made::At(t.any, used),
+        Three::Full => Made::Full,
+    }
+}
+
 // The entry of ∃v f: f with v = 0, or f with v = 1.
 pub fn exists(
     f: u32,
@@ -606,9 +807,11 @@ pub fn exists(
     requires { ⌜ v ≤ lastLevel ⌝ }
     ensures { λ r. ⌜ Maps (entering packed high work room) (leaving packed high work r) (some v) f (r .root) ⌝ }
 {
-    let a = apply(fixing(v, false), f, 0, room, packed, high, work);
-    let b = apply(fixing(v, true), f, 0, a, packed, high, work);
-    apply(1, a.root, b.root, b, packed, high, work)
+    if !can_apply(room, f, f) {
+        return room;
+    }
+    let r = quantify(packed, high, work, room.used, v, f);
+    room_after(any_of(r), packed.len())
 }
 
 // ---- single functions, each with its own nodes alone
