@@ -25,29 +25,29 @@ static unsigned char *read_file(const char *path, size_t *len) {
     return text;
 }
 
-typedef struct { uint8_t *level; uint32_t *low, *high, *head, *next, *memo; size_t len; } Table;
+typedef struct { uint8_t *level; uint32_t *low, *high, *work; size_t len, work_len; } Table;
 
-static Table new_table(size_t len) {
-    Table t = {malloc(len), malloc(4 * len), malloc(4 * len), malloc(4 * len), malloc(4 * len), malloc(8 * len), len};
-    memset(t.level, 0xA5, len), memset(t.low, 0xA5, 4 * len), memset(t.high, 0xA5, 4 * len);
-    memset(t.head, 0xA5, 4 * len), memset(t.next, 0xA5, 4 * len), memset(t.memo, 0xA5, 8 * len);
+static Table new_table(size_t len, size_t work_len) {
+    Table t = {malloc(len), malloc(4 * len), malloc(4 * len), malloc(4 * work_len), len, work_len};
+    memset(t.level, 0xA5, len), memset(t.low, 0xA5, 4 * len), memset(t.high, 0xA5, 4 * len), memset(t.work, 0xA5, 4 * work_len);
     return t;
 }
 
 int main(int argc, char **argv) {
     if (argc < 4) {
-        fprintf(stderr, "usage: %s LEFT RIGHT MODE [TABLE]\n", argv[0]);
+        fprintf(stderr, "usage: %s LEFT RIGHT MODE [TABLE [WORK]] (entries of the table, words for work)\n", argv[0]);
         return 2;
     }
     size_t left_len, right_len;
     unsigned char *left = read_file(argv[1], &left_len), *right = read_file(argv[2], &right_len);
     int mode = atoi(argv[3]);
-    Table t = new_table(argc > 4 ? strtoul(argv[4], NULL, 10) : 1048576);
+    size_t len = argc > 4 ? strtoul(argv[4], NULL, 10) : 1048576;
+    Table t = new_table(len, argc > 5 ? strtoul(argv[5], NULL, 10) : 4 * len);
     uint64_t answer[6];
 
     double a = now();
     uint64_t kind = seipolku_compare(left, left_len, right, right_len, (uint64_t)mode, 1000000, t.level, t.len, t.low, t.len, t.high, t.len,
-                                     t.head, t.len, t.next, t.len, t.memo, 2 * t.len, answer, 6);
+                                     NULL, 0, NULL, 0, t.work, t.work_len, answer, 6);
     double ours = now() - a;
     if (kind > 1) {
         printf("refused %lu\n", (unsigned long)answer[0]);

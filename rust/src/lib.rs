@@ -197,31 +197,34 @@ pub struct Table {
     level: Vec<u8>,
     low: Vec<u32>,
     high: Vec<u32>,
-    head: Vec<u32>,
-    next: Vec<u32>,
-    memo: Vec<u32>,
+    work: Vec<u32>,
 }
 
 impl Table {
-    /// A table of so many entries, with work memory of the recommended lengths.
+    /// A table of so many entries, with work memory of the recommended length.
     pub fn new(entries: usize) -> Table {
-        Table::with_work(entries, entries, 2 * entries)
+        Table::with_work(entries, 4 * entries)
     }
 
-    /// A table with a hash index and a computed table of other lengths; they change the time and no answer.
-    pub fn with_work(entries: usize, index: usize, memo: usize) -> Table {
+    /// A table with so many words for work, which holds the hash index and the computed table; the length changes the
+    /// time and no answer.
+    pub fn with_work(entries: usize, work: usize) -> Table {
         Table {
             level: vec![0; entries],
             low: vec![0; entries],
             high: vec![0; entries],
-            head: vec![0; index],
-            next: vec![0; index],
-            memo: vec![0; memo],
+            work: vec![0; work],
         }
     }
 
     /// Compares the models of two texts, by the iterates up to the limit.
-    pub fn compare(&mut self, left: &[u8], right: &[u8], mode: Mode, limit: u64) -> Result<Verdict, Refusal> {
+    pub fn compare(
+        &mut self,
+        left: &[u8],
+        right: &[u8],
+        mode: Mode,
+        limit: u64,
+    ) -> Result<Verdict, Refusal> {
         let mut answer = [0u64; 6];
         // SAFETY: each pointer comes with the length of the slice that it points to; the slices are apart, and the library
         // writes to those that are lent as mutable only.
@@ -239,12 +242,12 @@ impl Table {
                 self.low.len(),
                 self.high.as_mut_ptr(),
                 self.high.len(),
-                self.head.as_mut_ptr(),
-                self.head.len(),
-                self.next.as_mut_ptr(),
-                self.next.len(),
-                self.memo.as_mut_ptr(),
-                self.memo.len(),
+                std::ptr::null_mut(),
+                0,
+                std::ptr::null_mut(),
+                0,
+                self.work.as_mut_ptr(),
+                self.work.len(),
                 answer.as_mut_ptr(),
                 answer.len(),
             )
@@ -283,7 +286,11 @@ impl Table {
         match value {
             0 => Ok(false),
             1 => Ok(true),
-            number => Err(Refusal { fault: Fault::of(number), side: Side::Neither, line: 0 }),
+            number => Err(Refusal {
+                fault: Fault::of(number),
+                side: Side::Neither,
+                line: 0,
+            }),
         }
     }
 }
@@ -294,5 +301,9 @@ fn refusal(answer: [u64; 6]) -> Refusal {
         1 => Side::Right,
         _ => Side::Neither,
     };
-    Refusal { fault: Fault::of(answer[0]), side, line: answer[2] }
+    Refusal {
+        fault: Fault::of(answer[0]),
+        side,
+        line: answer[2],
+    }
 }

@@ -2,7 +2,13 @@
 
 use seipolku::{Fault, Mode, Refusal, Side, Table};
 
-fn compare(left: &str, right: &str, mode: Mode, limit: u64, entries: usize) -> Result<(bool, u64, u64), Refusal> {
+fn compare(
+    left: &str,
+    right: &str,
+    mode: Mode,
+    limit: u64,
+    entries: usize,
+) -> Result<(bool, u64, u64), Refusal> {
     let text = |t: &str| format!("{}\n", t.replace('/', "\n")).into_bytes();
     let verdict = Table::new(entries).compare(&text(left), &text(right), mode, limit)?;
     Ok((verdict.equal(), verdict.rounds, verdict.nodes))
@@ -14,29 +20,75 @@ const LIMIT: u64 = 1_000_000;
 fn rows() {
     let p2 = ("000102000201", "000103000001010202");
     let p4 = ("000103000201010402010602", "000104000201000202010403020603");
-    assert_eq!(compare("000101", "000101", Mode::Strong, LIMIT, 2), Ok((true, 1, 0)));
-    assert_eq!(compare("000101", "000101", Mode::Weak, LIMIT, 14), Ok((true, 1, 12)));
-    assert_eq!(compare(p2.0, p2.1, Mode::Strong, LIMIT, 4096), Ok((false, 1, 216)));
-    assert_eq!(compare(p2.0, p2.1, Mode::Weak, LIMIT, 4096), Ok((true, 3, 866)));
-    assert_eq!(compare(p4.0, p4.1, Mode::Strong, LIMIT, 4096), Ok((false, 2, 749)));
-    assert_eq!(compare("000102000201/01050001", "000102000001", Mode::Strong, LIMIT, 4096), Ok((true, 2, 194)));
+    assert_eq!(
+        compare("000101", "000101", Mode::Strong, LIMIT, 2),
+        Ok((true, 1, 0))
+    );
+    assert_eq!(
+        compare("000101", "000101", Mode::Weak, LIMIT, 14),
+        Ok((true, 1, 12))
+    );
+    assert_eq!(
+        compare(p2.0, p2.1, Mode::Strong, LIMIT, 4096),
+        Ok((false, 1, 216))
+    );
+    assert_eq!(
+        compare(p2.0, p2.1, Mode::Weak, LIMIT, 4096),
+        Ok((true, 3, 866))
+    );
+    assert_eq!(
+        compare(p4.0, p4.1, Mode::Strong, LIMIT, 4096),
+        Ok((false, 2, 749))
+    );
+    assert_eq!(
+        compare(
+            "000102000201/01050001",
+            "000102000001",
+            Mode::Strong,
+            LIMIT,
+            4096
+        ),
+        Ok((true, 2, 194))
+    );
 }
 
 #[test]
 fn refusals() {
     let p4 = ("000103000201010402010602", "000104000201000202010403020603");
     let refused = |fault, side, line| Err(Refusal { fault, side, line });
-    assert_eq!(compare("000101", "000101", Mode::Weak, LIMIT, 13), refused(Fault::Full, Side::Neither, 0));
-    assert_eq!(compare(p4.0, p4.1, Mode::Strong, 1, 4096), refused(Fault::Spent, Side::Neither, 0));
-    assert_eq!(compare("000101", "000101", Mode::Strong, LIMIT, 1), refused(Fault::Table, Side::Neither, 0));
-    assert_eq!(compare("000101/01", "000101", Mode::Strong, LIMIT, 4096), refused(Fault::Size, Side::Left, 1));
-    assert_eq!(compare("000101", "000141", Mode::Strong, LIMIT, 4096), refused(Fault::Range, Side::Right, 0));
+    assert_eq!(
+        compare("000101", "000101", Mode::Weak, LIMIT, 13),
+        refused(Fault::Full, Side::Neither, 0)
+    );
+    assert_eq!(
+        compare(p4.0, p4.1, Mode::Strong, 1, 4096),
+        refused(Fault::Spent, Side::Neither, 0)
+    );
+    assert_eq!(
+        compare("000101", "000101", Mode::Strong, LIMIT, 1),
+        refused(Fault::Table, Side::Neither, 0)
+    );
+    assert_eq!(
+        compare("000101/01", "000101", Mode::Strong, LIMIT, 4096),
+        refused(Fault::Size, Side::Left, 1)
+    );
+    assert_eq!(
+        compare("000101", "000141", Mode::Strong, LIMIT, 4096),
+        refused(Fault::Range, Side::Right, 0)
+    );
 }
 
 #[test]
 fn largest() {
-    let mut table = Table::with_work(4096, 7, 0);
-    let verdict = table.compare(b"000102000201\n", b"000103000001010202\n", Mode::Weak, LIMIT).unwrap();
+    let mut table = Table::with_work(4096, 7);
+    let verdict = table
+        .compare(
+            b"000102000201\n",
+            b"000103000001010202\n",
+            Mode::Weak,
+            LIMIT,
+        )
+        .unwrap();
     let root = verdict.largest.unwrap();
     let mut pairs = Vec::new();
     for x in 0..2 {
@@ -47,14 +99,27 @@ fn largest() {
         }
     }
     assert_eq!(pairs, [(0, 0), (0, 1), (1, 2)]);
-    assert_eq!(table.look_up(root, 64, [0; 4]).unwrap_err().fault, Fault::LookUp);
+    assert_eq!(
+        table.look_up(root, 64, [0; 4]).unwrap_err().fault,
+        Fault::LookUp
+    );
 }
 
 #[test]
 fn work_memory_changes_no_answer() {
     for work in [0, 1, 5, 1000, 9001] {
-        let mut table = Table::with_work(4096, work, work);
-        let verdict = table.compare(b"000102000201\n0106000001\n", b"000102000201\n", Mode::Weak, LIMIT).unwrap();
-        assert_eq!((verdict.equal(), verdict.rounds, verdict.nodes), (true, 2, 620));
+        let mut table = Table::with_work(4096, work);
+        let verdict = table
+            .compare(
+                b"000102000201\n0106000001\n",
+                b"000102000201\n",
+                Mode::Weak,
+                LIMIT,
+            )
+            .unwrap();
+        assert_eq!(
+            (verdict.equal(), verdict.rounds, verdict.nodes),
+            (true, 2, 620)
+        );
     }
 }
