@@ -1,8 +1,8 @@
 -- ∃ of a level by one recursion, over its three functions. Assumes nothing.
---     treble-..            three functions worked out one after the other
---     made-three-..        three nodes that are made
---     settle-..            ∃ of an entry that does not read the level, or has it on top
---     quantify-..          the recursion: each call's operand, and each way out
+--     made-next, made-three     three nodes that are made one after the other
+--     settle-..                 ∃ of an entry that does not read the level, or has it on top
+--     quantify-..               the recursion: each call's operand, and each way out
+--     exists-maps               the answer, as a step of a formula
 use mathlib.Core.Path.{_≡_, refl, sym, ap, ap₂, _∙_, fun-ext, subst, subst₂}
 use mathlib.Core.Logic.{⊎-elim}
 use mathlib.Core.Bool.{Bool, true, false, _||_}
@@ -254,15 +254,12 @@ module _ (t : Table) (wf : WellFormed t) (l : ℕ) (in-range : l ≤ lastLevel) 
   node-over : nodeFun t l i j ≡ H
   node-over = ap₂ (choice l) (high .1) (low .1) ∙ shannon l H
 
-pub trebled-same : {t t′ : Table} {g h : Funs} (r : Trio) → g ≡ h → Trebled t t′ g r → Trebled t t′ h r
+trebled-same : {t t′ : Table} {g h : Funs} (r : Trio) → g ≡ h → Trebled t t′ g r → Trebled t t′ h r
 trebled-same {t} {t′} r e = subst (λ (k : Funs). Trebled t t′ k r) e
 
 module _ (t : Table) (v f : ℕ) (ok : Quantifiable t v f) where
   abbrev H : Funs
   H = results-of v (den t f)
-
-  small : f < 1048576
-  small = let u = ok .used in let a = ok .formed .room in let b = ok .formed .most in omega arith
 
   asked-level : (quantifying v f - 255) % 128 ≡ v
   asked-level = let a = ok .in-range in omega arith
