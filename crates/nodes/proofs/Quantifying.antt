@@ -1,37 +1,35 @@
 -- ∃ of a level by one recursion, over its three functions. Assumes nothing.
---     treble-..            three functions worked out one after the other
---     made-three-..        three nodes that are made
---     settle-..            ∃ of an entry that does not read the level, or has it on top
---     quantify-..          the recursion: each call's operand, and each way out
+--     made-next, made-three     three nodes that are made one after the other
+--     settle-..                 ∃ of an entry that does not read the level, or has it on top
+--     quantify-..               the recursion: each call's operand, and each way out
+--     exists-maps               the answer, as a step of a formula
 use mathlib.Core.Path.{_≡_, refl, sym, ap, ap₂, _∙_, fun-ext, subst, subst₂}
 use mathlib.Core.Logic.{⊎-elim}
 use mathlib.Core.Bool.{Bool, true, false, _||_}
 use mathlib.Core.List.{List, [], _∷_, List·Memᴰ, List·Memᴰ·head, List·Memᴰ·tail, List·Memᴰ·cases-cons, List·Memᴰ·eq-of-singleton}
-use Prim.Native.Nat.{ℕ, suc, _+_, _-_, _*_, _/_, _%_, _<_, _≤_}
+use Prim.Native.Nat.{ℕ, suc, _-_, _/_, _%_, _<_, _≤_}
 use native.Mathlib.Omega.{arith}
 use lib.ListN.{length}
-use Rattle.nodes.specs.declared.Made.{Made}
 use Rattle.nodes.specs.declared.Made.the-variants as made
 use Rattle.nodes.specs.declared.Room.{Room}
 use Rattle.nodes.specs.declared.Trio.{Trio}
 use Rattle.nodes.specs.declared.Three.{Three}
 use Rattle.nodes.specs.declared.Three.the-variants as three
 use Rattle.nodes.specs.declared.Held.the-variants as held
-use Rattle.nodes.specs.Fun.{Assignment, Fun, put, either, fixed, exists, Part, From}
+use Rattle.nodes.specs.Fun.{Fun, either, fixed, exists, Part, From}
 use Rattle.nodes.specs.Formula.{some, value}
-use Rattle.nodes.specs.Table.{Table, lastLevel, levelOf, choice, den, WellFormed, Extends, Built, Short}
+use Rattle.nodes.specs.Table.{Table, lastLevel, levelOf, choice, den, WellFormed, Extends}
 use Rattle.nodes.specs.Packed.{levels, lows, packed-table}
 use Rattle.nodes.specs.Parts.{headsIn, linksIn, memoIn}
-use Rattle.nodes.specs.Index.{Indexed, Indexing}
+use Rattle.nodes.specs.Index.{Indexed}
 use Rattle.nodes.specs.Make.{Makeable, nodeFun, Making}
-use Rattle.nodes.specs.Operate.{operation, Operands, cofactorOf, Cofactor, Quantified, quantifying, Recalls, Remembered, Stores, Keeping, Helping, Operating}
-use Rattle.nodes.specs.Work.{Added, Has, Lacks, Store, store, roomOf, appliesTo, Ready, Keeps, After, Does, stayed, grew, filled, Stands, Gives, Maps}
+use Rattle.nodes.specs.Operate.{operation, Operands, cofactorOf, Cofactor, Quantified, quantifying, Recalls, Remembered, Stores, Keeping, Operating}
+use Rattle.nodes.specs.Work.{Added, Has, Lacks, Store, store, roomOf, appliesTo, Ready, Keeps, After, Does, stayed, grew, filled, Stands, Maps}
 use Rattle.nodes.specs.Quantify.{Funs, listed, results-of, Entry, Trebled, Quantifiable, MakeableThree, nodeFuns, RecalledThree, LacksThree, MakingThree, FinishingThree, Quantifying, anyOf}
-use Rattle.nodes.proofs.Funs.{shannon, from-le, from-put, from-fixed, part-fixed, part-refl}
+use Rattle.nodes.proofs.Funs.{shannon, from-put, from-fixed, part-fixed, part-refl}
 use Rattle.nodes.proofs.Parting.{levels-length}
 use Rattle.nodes.proofs.Tables.{den-from, den-extends}
-use Rattle.nodes.proofs.Making.{extends-refl, answered}
-use Rattle.nodes.proofs.Growing.{extends-trans}
+use Rattle.nodes.proofs.Making.{answered}
 use Rattle.nodes.proofs.Stepping.{level-above}
 use Rattle.nodes.proofs.Operating.{cofactor, operation-or, put-put, from-fixed-at}
 use Rattle.nodes.proofs.Memory.{recalls, remembered-extends, remembered-stores}
@@ -256,15 +254,12 @@ module _ (t : Table) (wf : WellFormed t) (l : ℕ) (in-range : l ≤ lastLevel) 
   node-over : nodeFun t l i j ≡ H
   node-over = ap₂ (choice l) (high .1) (low .1) ∙ shannon l H
 
-pub trebled-same : {t t′ : Table} {g h : Funs} (r : Trio) → g ≡ h → Trebled t t′ g r → Trebled t t′ h r
+trebled-same : {t t′ : Table} {g h : Funs} (r : Trio) → g ≡ h → Trebled t t′ g r → Trebled t t′ h r
 trebled-same {t} {t′} r e = subst (λ (k : Funs). Trebled t t′ k r) e
 
 module _ (t : Table) (v f : ℕ) (ok : Quantifiable t v f) where
   abbrev H : Funs
   H = results-of v (den t f)
-
-  small : f < 1048576
-  small = let u = ok .used in let a = ok .formed .room in let b = ok .formed .most in omega arith
 
   asked-level : (quantifying v f - 255) % 128 ≡ v
   asked-level = let a = ok .in-range in omega arith
