@@ -10,7 +10,7 @@ ghost use lib.ListN.{length, getD, set};
 ghost use Rattle.nodes.specs.Fun.{both, either, negated, fixed, same};
 ghost use Rattle.nodes.specs.Packed.{levels, lows, packed-table};
 ghost use Rattle.nodes.specs.Parts.{linksIn, headsIn, memoIn};
-ghost use Rattle.nodes.specs.Operate.{operation, lastOperation, Operands, slotsIn, lastNumber, quantifying, SettlesBy, Settles, cofactorOf, Splits, Recalled, Keeping, Finishing, Helping, Operating};
+ghost use Rattle.nodes.specs.Operate.{operation, turnsOf, lastOperation, Operands, slotsIn, lastNumber, quantifying, SettlesBy, Settles, cofactorOf, Splits, Recalled, Keeping, Finishing, Helping, Operating};
 ghost use Rattle.nodes.specs.Start.{Clear, Fits, Starts, Unpackable, Unpacks};
 ghost use Rattle.nodes.specs.Table.{maxLength, lastLevel, levelOf, den, WellFormed};
 ghost use Rattle.nodes.specs.Index.{hashOf, coverage, Indexing, Linking};
@@ -33,12 +33,13 @@ pub enum Found {
     Nothing,
 }
 
-// A place below n for three numbers.
+// A place below n for three numbers. Near numbers have near places, so that nodes made one after the other are found in
+// few cache lines.
 fn hash(a: u32, b: u32, c: u32, n: usize) -> usize
     requires { ⌜ 0 < n ⌝ }
     ensures { λ r. ⌜ (r ≡ hashOf a b c n) × (r < n) ⌝ }
 {
-    ((a as usize) + (b as usize) * 12582917 + (c as usize) * 4256249) % n
+    ((a as usize) + 3 * (b as usize) + (c as usize)) % n
 }
 
 // How many entries the index covers.
@@ -412,6 +413,13 @@ fn finish(
     Made::At(i, n)
 }
 
+// Whether the memory has the operands of an operation the other way round: those of ∧ and ∨ by their numbers.
+fn turns(op: u32, f: u32, g: u32) -> bool
+    ensures { λ r. ⌜ r ≡ turnsOf op f g ⌝ }
+{
+    op < 2 && g < f
+}
+
 // The entry of the result of an operation on what f and g stand for.
 pub fn operate(
     packed: &mut [u32],
@@ -429,7 +437,10 @@ pub fn operate(
     if let Settled::Is(k) = settle(packed, high, used, op, f, g) {
         return Made::At(k, used);
     }
-    if let Found::At(k) = recall(work, op, f, g) {
+    let turned = turns(op, f, g);
+    let x = pick(turned, g, f);
+    let y = pick(turned, f, g);
+    if let Found::At(k) = recall(work, op, x, y) {
         return Made::At(k, used);
     }
     let s = split_at_top(packed, high, used, op, f, g);
@@ -439,7 +450,7 @@ pub fn operate(
     let Made::At(b, m) = operate(packed, high, work, n, op, s.f1, s.g1) else {
         return Made::Full;
     };
-    finish(packed, high, work, m, s.v, a, b, op, f, g)
+    finish(packed, high, work, m, s.v, a, b, op, x, y)
 }
 
 // ---- ∃ of a level
