@@ -5,7 +5,8 @@ pub mod lookup;
 
 ghost use mathlib.Core.Path.{_≡_};
 ghost use mathlib.Core.Bool.{cond};
-ghost use Prim.Native.Nat.{ℕ, _+_, _*_, _≤_, _<_, min, max};
+ghost use Prim.Native.Nat.{ℕ, _+_, _-_, _*_, _%_, _≤_, _<_, min, max};
+ghost use lib.Dec.{ltb};
 ghost use lib.ListN.{length, getD, set};
 ghost use Rattle.nodes.specs.Fun.{both, either, negated, fixed, same};
 ghost use Rattle.nodes.specs.Packed.{levels, lows, packed-table};
@@ -33,13 +34,31 @@ pub enum Found {
     Nothing,
 }
 
+// x, less m where it has that much.
+fn lessened(x: usize, m: usize) -> usize
+    ensures { λ r. ⌜ r ≡ cond (ltb x m) x (x - m) ⌝ }
+{
+    if x < m { x } else { x - m }
+}
+
+// x % n, without a division where x is below 8 n.
+fn remainder(x: usize, n: usize) -> usize
+    requires { ⌜ 0 < n ⌝ }
+    ensures { λ r. ⌜ r ≡ x % n ⌝ }
+{
+    if x / 8 < n && n < 1099511627776 {
+        return lessened(lessened(lessened(x, 4 * n), 2 * n), n);
+    }
+    x % n
+}
+
 // A place below n for three numbers. Near numbers have near places, so that nodes made one after the other are found in
 // few cache lines.
 fn hash(a: u32, b: u32, c: u32, n: usize) -> usize
     requires { ⌜ 0 < n ⌝ }
     ensures { λ r. ⌜ (r ≡ hashOf a b c n) × (r < n) ⌝ }
 {
-    ((a as usize) + 3 * (b as usize) + (c as usize)) % n
+    remainder((a as usize) + 3 * (b as usize) + (c as usize), n)
 }
 
 // How many entries the index covers.
