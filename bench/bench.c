@@ -1,5 +1,5 @@
 /* The same pairs through the library and through BuDDy, in one process: CPU seconds and their ratio.
-   bench LEFT RIGHT MODE [TABLE]: one line, tab-separated: verdict rounds nodes seconds(library) seconds(BuDDy) ratio nodes/s. */
+   bench LEFT RIGHT MODE [TABLE [WORK]]: one line, tab-separated: verdict rounds nodes seconds(library) seconds(BuDDy) ratio nodes/s. */
 #include "../include/seipolku.h"
 #include "buddy.h"
 #include <stdio.h>
@@ -25,12 +25,25 @@ static unsigned char *read_file(const char *path, size_t *len) {
     return text;
 }
 
+/* How often each side runs, in turn; the median counts. */
+enum { TURNS = 9 };
+
 typedef struct { uint8_t *level; uint32_t *low, *high, *work; size_t len, work_len; } Table;
 
 static Table new_table(size_t len, size_t work_len) {
     Table t = {malloc(len), malloc(4 * len), malloc(4 * len), malloc(4 * work_len), len, work_len};
     memset(t.level, 0xA5, len), memset(t.low, 0xA5, 4 * len), memset(t.high, 0xA5, 4 * len), memset(t.work, 0xA5, 4 * work_len);
     return t;
+}
+
+static int by_value(const void *a, const void *b) {
+    double x = *(const double *)a, y = *(const double *)b;
+    return (x > y) - (x < y);
+}
+
+static double median(double *times) {
+    qsort(times, TURNS, sizeof *times, by_value);
+    return times[TURNS / 2];
 }
 
 int main(int argc, char **argv) {
@@ -43,28 +56,33 @@ int main(int argc, char **argv) {
     int mode = atoi(argv[3]);
     size_t len = argc > 4 ? strtoul(argv[4], NULL, 10) : 1048576;
     Table t = new_table(len, argc > 5 ? strtoul(argv[5], NULL, 10) : 4 * len);
-    uint64_t answer[6];
+    double ours[TURNS], theirs[TURNS];
+    uint64_t kind = 0, answer[6];
 
-    double a = now();
-    uint64_t kind = seipolku_compare(left, left_len, right, right_len, (uint64_t)mode, 1000000, t.level, t.len, t.low, t.len, t.high, t.len,
-                                     NULL, 0, NULL, 0, t.work, t.work_len, answer, 6);
-    double ours = now() - a;
-    if (kind > 1) {
-        printf("refused %lu\n", (unsigned long)answer[0]);
-        return 1;
-    }
+    for (int turn = 0; turn < TURNS; turn++) {
+        double a = now();
+        kind = seipolku_compare(left, left_len, right, right_len, (uint64_t)mode, 1000000, t.level, t.len, t.low, t.len, t.high, t.len, NULL, 0, NULL,
+                                0, t.work, t.work_len, answer, 6);
+        ours[turn] = now() - a;
+        if (kind > 1) {
+            printf("refused %lu\n", (unsigned long)answer[0]);
+            return 1;
+        }
 
-    buddy_start((int)(2 * t.len), (int)(t.len / 2));
-    a = now();
-    Buddy b = buddy_compare(left, left_len, right, right_len, mode);
-    double theirs = now() - a;
-    int nodes = buddy_nodes();
-    if (b.equal != (kind == 0) || b.rounds != answer[3] || (uint64_t)nodes != answer[4]) {
-        printf("DISAGREE: library %lu %lu %lu, BuDDy %d %llu %d\n", (unsigned long)kind, (unsigned long)answer[3], (unsigned long)answer[4], !b.equal, b.rounds, nodes);
-        return 1;
+        buddy_start((int)(2 * t.len), (int)(t.len / 2));
+        a = now();
+        Buddy b = buddy_compare(left, left_len, right, right_len, mode);
+        theirs[turn] = now() - a;
+        int nodes = buddy_nodes();
+        buddy_end();
+        if (b.equal != (kind == 0) || b.rounds != answer[3] || (uint64_t)nodes != answer[4]) {
+            printf("DISAGREE: library %lu %lu %lu, BuDDy %d %llu %d\n", (unsigned long)kind, (unsigned long)answer[3], (unsigned long)answer[4], !b.equal,
+                   b.rounds, nodes);
+            return 1;
+        }
     }
-    printf("%s\t%lu\t%lu\t%.4f\t%.4f\t%.2f\t%.0f\n", kind ? "different" : "equal", (unsigned long)answer[3], (unsigned long)answer[4], ours, theirs, ours / theirs,
-           (double)answer[4] / ours);
-    buddy_end();
+    double mine = median(ours), his = median(theirs);
+    printf("%s\t%lu\t%lu\t%.5f\t%.5f\t%.2f\t%.0f\n", kind ? "different" : "equal", (unsigned long)answer[3], (unsigned long)answer[4], mine, his, mine / his,
+           (double)answer[4] / mine);
     return 0;
 }
