@@ -16,13 +16,13 @@ use Rattle.nodes.specs.declared.Found.the-variants as found
 use Rattle.nodes.specs.Fun.{Fun}
 use Rattle.nodes.specs.Table.{Table, table, maxLength, levelOf, WellFormed}
 use Rattle.nodes.specs.Packed.{packing, levels, lows, packed-table}
-use Rattle.nodes.specs.Parts.{quarter, linksIn, headsIn, memoIn}
+use Rattle.nodes.specs.Parts.{covers, hashes, headsAt, memoryAt, linksIn, headsIn, memoIn}
 use Rattle.nodes.specs.Index.{hashOf, coverage, Indexed, Indexing, Linked, Linking}
 use Rattle.nodes.specs.Make.{Makeable, IsNode, Finds, nodeFun, Makes, Making, MadeFull}
-use Rattle.nodes.specs.Operate.{cofactorOf, Holds, Stores, Keeping, Finishing}
+use Rattle.nodes.specs.Operate.{cofactorOf, slotsIn, Holds, Stores, Keeping, Finishing}
 use Rattle.nodes.specs.Work.{isDeeper}
 use Rattle.nodes.proofs.Funs.{by-eq}
-use Rattle.nodes.proofs.Parting.{packed-level, packed-low, packed-again, levels-length, level-at, low-at, levels-set, lows-set, links-length, heads-length, memo-length, link-at, head-at, memo-at, same-quarter, links-set-link, heads-set-link, memo-set-link, links-set-head, heads-set-head, memo-set-head, links-set-memo, heads-set-memo, memo-set-memo}
+use Rattle.nodes.proofs.Parting.{packed-level, packed-low, packed-again, levels-length, level-at, low-at, levels-set, lows-set, links-length, heads-length, memo-length, link-at, head-at, memo-at, same-covers, same-hashes, same-memory, links-set-link, heads-set-link, memo-set-link, links-set-head, heads-set-head, memo-set-head, links-set-memo, heads-set-memo, memo-set-memo}
 use Rattle.nodes.proofs.Indexing.{coverage-none, coverage-some, Chained, chained-start, chained-next, chain-falls, chain-within, linked-none, linked-at}
 use Rattle.nodes.proofs.Making.{made-new, made-linked, made-full}
 
@@ -59,52 +59,66 @@ module _ (packed : List ℕ) (f v : ℕ) where
 
 -- ---- the index
 
-pub work-coverage : (work : List ℕ) → coverage (headsIn work) (linksIn work) ≡ quarter work
-work-coverage work = by-eq (coverage (headsIn work) (linksIn work) ≡ quarter work) (length (headsIn work)) 0
-    (λ e. coverage-none (headsIn work) (linksIn work) e ∙ sym e ∙ heads-length work)
-    (λ n. coverage-some (headsIn work) (linksIn work) n ∙ links-length work)
+-- how many entries the index covers, where it has no head and where it has one
+module _ (work : List ℕ) where
+  pub work-uncovered : hashes work ≡ 0 → coverage (headsIn work) (linksIn work) ≡ 0
+  work-uncovered e = coverage-none (headsIn work) (linksIn work) (heads-length work ∙ e)
+
+  pub work-coverage : (hashes work ≡ 0 → ⊥) → coverage (headsIn work) (linksIn work) ≡ covers work
+  work-coverage n = coverage-some (headsIn work) (linksIn work) (λ e. n (sym (heads-length work) ∙ e)) ∙ links-length work
+
+  -- an index that covers an entry has a head, and a link for it
+  module _ (i : ℕ) (inside : i < coverage (headsIn work) (linksIn work)) where
+    pub covered-head : 0 < hashes work
+    covered-head = by-eq (0 < hashes work) (hashes work) 0 (λ e. absurd (let z = work-uncovered e in omega arith)) (λ n. omega arith)
+
+    pub covered-link : i < covers work
+    covered-link = subst (λ (n : ℕ). i < n) (work-coverage (λ e. let h = covered-head in omega arith)) inside
 
 module _ (t : Table) (work : List ℕ) (v lo hi : ℕ) (ok : Indexing t work) where
-  pub work-start : (h : ℕ) → h ≡ hashOf v lo hi (quarter work) → h < quarter work → Chained t (headsIn work) (linksIn work) v lo hi (getD work (quarter work + h) 0)
-  work-start h e l =
-      let d = sym (heads-length work) in
-      subst (Chained t (headsIn work) (linksIn work) v lo hi) (head-at work h l)
+  pub work-start : (n k h : ℕ) → n ≡ hashes work → k ≡ covers work → h ≡ hashOf v lo hi n → h < n
+      → Chained t (headsIn work) (linksIn work) v lo hi (getD work (1 + k + h) 0)
+  work-start n k h en ek e l =
+      let d = en ∙ sym (heads-length work) in
+      let at = head-at work h (subst (λ (m : ℕ). h < m) en l) ∙ ap (λ (c : ℕ). getD work (1 + c + h) 0) (sym ek) in
+      subst (Chained t (headsIn work) (linksIn work) v lo hi) at
       (chained-start t (headsIn work) (linksIn work) v lo hi ok h (subst (λ (n : ℕ). h ≡ hashOf v lo hi n) d e) (subst (λ (n : ℕ). h < n) d l))
 
   module _ (i : ℕ) (two : 2 ≤ i) (c : Chained t (headsIn work) (linksIn work) v lo hi i) where
-    pub work-within : i < quarter work
+    pub work-within : i < covers work
     work-within = subst (λ (n : ℕ). i < n) (links-length work) (chain-within t (headsIn work) (linksIn work) v lo hi ok i two c)
 
-    pub work-falls : getD work i 0 < i
+    pub work-falls : getD work (1 + i) 0 < i
     work-falls = subst (λ (j : ℕ). j < i) (link-at work i work-within) (chain-falls t (headsIn work) (linksIn work) v lo hi ok i two c)
 
-    pub work-next : (IsNode t v lo hi i → ⊥) → Chained t (headsIn work) (linksIn work) v lo hi (getD work i 0)
+    pub work-next : (IsNode t v lo hi i → ⊥) → Chained t (headsIn work) (linksIn work) v lo hi (getD work (1 + i) 0)
     work-next other = subst (Chained t (headsIn work) (linksIn work) v lo hi) (link-at work i work-within)
         (chained-next t (headsIn work) (linksIn work) v lo hi ok i two other c)
 
 module _ (work : List ℕ) (used v lo hi : ℕ) where
-  pub work-unlinked : quarter work ≤ used → Linking work used v lo hi work
-  work-unlinked out = (linked-none (headsIn work) (linksIn work) used v lo hi (let e = work-coverage work in omega arith), refl)
+  pub work-unlinked : coverage (headsIn work) (linksIn work) ≤ used → Linking work used v lo hi work
+  work-unlinked out = (linked-none (headsIn work) (linksIn work) used v lo hi out, refl)
 
-  module _ (h : ℕ) (inside : used < quarter work) (hash : h ≡ hashOf v lo hi (quarter work)) (below : h < quarter work) where
+  module _ (h : ℕ) (inside : used < covers work) (hash : h ≡ hashOf v lo hi (hashes work)) (below : h < hashes work) where
     old : ℕ
-    old = getD work (quarter work + h) 0
+    old = getD work (headsAt work + h) 0
 
     first : List ℕ
-    first = set work used old
+    first = set work (1 + used) old
 
     abbrev after : List ℕ
-    after = set first (quarter work + h) used
+    after = set first (headsAt work + h) used
 
-    first-quarter : quarter first ≡ quarter work
+    first-covers : covers first ≡ covers work
     unfolding first
-    first-quarter = same-quarter work used old
+    first-covers = same-covers work (1 + used) old (omega arith)
 
-    at : quarter work + h ≡ quarter first + h
-    at = ap (λ (q : ℕ). q + h) (sym first-quarter)
+    at : headsAt work + h ≡ headsAt first + h
+    at = ap (λ (c : ℕ). 1 + c + h) (sym first-covers)
 
-    below-first : h < quarter first
-    below-first = subst (λ (q : ℕ). h < q) (sym first-quarter) below
+    below-first : h < hashes first
+    unfolding first
+    below-first = subst (λ (n : ℕ). h < n) (sym (same-hashes work (1 + used) old (omega arith))) below
 
     heads-are : headsIn after ≡ set (headsIn work) h used
     unfolding first
@@ -122,9 +136,9 @@ module _ (work : List ℕ) (used v lo hi : ℕ) where
     unfolding first
     memo-is = ap (λ (i : ℕ). memoIn (set first i used)) at ∙ memo-set-head first h used below-first ∙ memo-set-link work used old inside
 
-    pub work-linked : Linking work used v lo hi (set (set work used (getD work (quarter work + h) 0)) (quarter work + h) used)
+    linked : Linking work used v lo hi (set (set work (1 + used) (getD work (headsAt work + h) 0)) (headsAt work + h) used)
     unfolding first old
-    work-linked =
+    linked =
         let n = heads-length work in (
           subst₂ (Linked (headsIn work) (linksIn work) used v lo hi) (sym heads-are) (sym links-are)
               (linked-at (headsIn work) (linksIn work) used v lo hi h (λ z. omega arith) (let m = links-length work in omega arith)
@@ -132,11 +146,17 @@ module _ (work : List ℕ) (used v lo hi : ℕ) where
           memo-is,
         )
 
+  pub work-linked : (n k h : ℕ) → n ≡ hashes work → k ≡ covers work → used < coverage (headsIn work) (linksIn work) → h ≡ hashOf v lo hi n → h < n
+      → Linking work used v lo hi (set (set work (1 + used) (getD work (1 + k + h) 0)) (1 + k + h) used)
+  work-linked n k h en ek inside e l =
+      subst (λ (c : ℕ). Linking work used v lo hi (set (set work (1 + used) (getD work (1 + c + h) 0)) (1 + c + h) used)) (sym ek)
+      (linked h (covered-link work used inside) (subst (λ (m : ℕ). h ≡ hashOf v lo hi m) en e) (subst (λ (m : ℕ). h < m) en l))
+
 -- ---- the memory of results
 
-module _ (work : List ℕ) (o f g r s : ℕ) (inside : s < (length work - 2 * quarter work) / 4) where
+module _ (work : List ℕ) (m : ℕ) (begins : m ≡ memoryAt work) (o f g r s : ℕ) (inside : s < slotsIn work) where
   abbrev slot : ℕ
-  slot = 2 * quarter work + 4 * s
+  slot = m + 4 * s
 
   fits : 4 * s + 3 < length (memoIn work)
   fits = let e = memo-length work in omega arith
@@ -144,8 +164,9 @@ module _ (work : List ℕ) (o f g r s : ℕ) (inside : s < (length work - 2 * qu
   pub work-holds : getD work slot 0 ≡ o + 1 → getD work (slot + 1) 0 ≡ f → getD work (slot + 2) 0 ≡ g → getD work (slot + 3) 0 ≡ r → Holds (memoIn work) o f g r
   work-holds a b c d =
       let at : (k : ℕ) → getD (memoIn work) (4 * s + k) 0 ≡ getD work (slot + k) 0 = λ k.
-      memo-at work (4 * s + k) ∙ ap (λ (i : ℕ). getD work i 0) (let e : 2 * quarter work + (4 * s + k) ≡ slot + k = omega arith in e) in
-      record { slot = s; within = fits; key = memo-at work (4 * s) ∙ a; left = at 1 ∙ b; right = at 2 ∙ c; result = at 3 ∙ d }
+      memo-at work (4 * s + k) ∙ ap (λ (i : ℕ). getD work i 0) (let e : memoryAt work + (4 * s + k) ≡ slot + k = omega arith in e) in
+      let here = ap (λ (i : ℕ). getD work (i + 4 * s) 0) (sym begins) in
+      record { slot = s; within = fits; key = memo-at work (4 * s) ∙ here ∙ a; left = at 1 ∙ b; right = at 2 ∙ c; result = at 3 ∙ d }
 
   w₁ : List ℕ
   w₁ = set work slot (o + 1)
@@ -156,41 +177,41 @@ module _ (work : List ℕ) (o f g r s : ℕ) (inside : s < (length work - 2 * qu
   w₃ : List ℕ
   w₃ = set w₂ (slot + 2) g
 
-  q₁ : quarter w₁ ≡ quarter work
+  m₁ : memoryAt w₁ ≡ m
   unfolding w₁
-  q₁ = same-quarter work slot (o + 1)
+  m₁ = same-memory work slot (o + 1) (omega arith) ∙ sym begins
 
-  q₂ : quarter w₂ ≡ quarter work
+  m₂ : memoryAt w₂ ≡ m
   unfolding w₂
-  q₂ = same-quarter w₁ (slot + 1) f ∙ q₁
+  m₂ = same-memory w₁ (slot + 1) f (omega arith) ∙ m₁
 
-  q₃ : quarter w₃ ≡ quarter work
+  m₃ : memoryAt w₃ ≡ m
   unfolding w₃
-  q₃ = same-quarter w₂ (slot + 2) g ∙ q₂
+  m₃ = same-memory w₂ (slot + 2) g (omega arith) ∙ m₂
 
   memo-after : memoIn (set w₃ (slot + 3) r) ≡ set (set (set (set (memoIn work) (4 * s) (o + 1)) (4 * s + 1) f) (4 * s + 2) g) (4 * s + 3) r
   unfolding w₁ w₂ w₃
   memo-after =
-      memo-set-memo w₃ (quarter work) q₃ (slot + 3) (4 * s + 3) r (omega arith)
-      ∙ ap (λ (l : List ℕ). set l (4 * s + 3) r) (memo-set-memo w₂ (quarter work) q₂ (slot + 2) (4 * s + 2) g (omega arith)
-      ∙ ap (λ (l : List ℕ). set l (4 * s + 2) g) (memo-set-memo w₁ (quarter work) q₁ (slot + 1) (4 * s + 1) f (omega arith)
-      ∙ ap (λ (l : List ℕ). set l (4 * s + 1) f) (memo-set-memo work (quarter work) refl slot (4 * s) (o + 1) refl)))
+      memo-set-memo w₃ m m₃ (slot + 3) (4 * s + 3) r (omega arith)
+      ∙ ap (λ (l : List ℕ). set l (4 * s + 3) r) (memo-set-memo w₂ m m₂ (slot + 2) (4 * s + 2) g (omega arith)
+      ∙ ap (λ (l : List ℕ). set l (4 * s + 2) g) (memo-set-memo w₁ m m₁ (slot + 1) (4 * s + 1) f (omega arith)
+      ∙ ap (λ (l : List ℕ). set l (4 * s + 1) f) (memo-set-memo work m (sym begins) slot (4 * s) (o + 1) refl)))
 
   heads-after : headsIn (set w₃ (slot + 3) r) ≡ headsIn work
   unfolding w₁ w₂ w₃
   heads-after =
-      heads-set-memo w₃ (quarter work) q₃ (slot + 3) (4 * s + 3) r (omega arith)
-      ∙ heads-set-memo w₂ (quarter work) q₂ (slot + 2) (4 * s + 2) g (omega arith)
-      ∙ heads-set-memo w₁ (quarter work) q₁ (slot + 1) (4 * s + 1) f (omega arith)
-      ∙ heads-set-memo work (quarter work) refl slot (4 * s) (o + 1) refl
+      heads-set-memo w₃ m m₃ (slot + 3) (4 * s + 3) r (omega arith)
+      ∙ heads-set-memo w₂ m m₂ (slot + 2) (4 * s + 2) g (omega arith)
+      ∙ heads-set-memo w₁ m m₁ (slot + 1) (4 * s + 1) f (omega arith)
+      ∙ heads-set-memo work m (sym begins) slot (4 * s) (o + 1) refl
 
   links-after : linksIn (set w₃ (slot + 3) r) ≡ linksIn work
   unfolding w₁ w₂ w₃
   links-after =
-      links-set-memo w₃ (quarter work) q₃ (slot + 3) (4 * s + 3) r (omega arith)
-      ∙ links-set-memo w₂ (quarter work) q₂ (slot + 2) (4 * s + 2) g (omega arith)
-      ∙ links-set-memo w₁ (quarter work) q₁ (slot + 1) (4 * s + 1) f (omega arith)
-      ∙ links-set-memo work (quarter work) refl slot (4 * s) (o + 1) refl
+      links-set-memo w₃ m m₃ (slot + 3) (4 * s + 3) r (omega arith)
+      ∙ links-set-memo w₂ m m₂ (slot + 2) (4 * s + 2) g (omega arith)
+      ∙ links-set-memo w₁ m m₁ (slot + 1) (4 * s + 1) f (omega arith)
+      ∙ links-set-memo work m (sym begins) slot (4 * s) (o + 1) refl
 
   pub work-keeps : Keeping work o f g r (set (set (set (set work slot (o + 1)) (slot + 1) f) (slot + 2) g) (slot + 3) r)
   unfolding w₁ w₂ w₃

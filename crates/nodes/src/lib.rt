@@ -10,7 +10,7 @@ ghost use lib.Dec.{ltb};
 ghost use lib.ListN.{length, getD, set};
 ghost use Rattle.nodes.specs.Fun.{both, either, negated, fixed, same};
 ghost use Rattle.nodes.specs.Packed.{levels, lows, packed-table};
-ghost use Rattle.nodes.specs.Parts.{linksIn, headsIn, memoIn};
+ghost use Rattle.nodes.specs.Parts.{parted, covers, hashes, memoryAt, linksIn, headsIn, memoIn};
 ghost use Rattle.nodes.specs.Operate.{operation, turnsOf, lastOperation, Operands, slotsIn, lastNumber, quantifying, SettlesBy, Settles, cofactorOf, Splits, Recalled, Keeping, Finishing, Helping, Operating};
 ghost use Rattle.nodes.specs.Start.{Clear, Fits, Starts, Unpackable, Unpacks};
 ghost use Rattle.nodes.specs.Table.{maxLength, lastLevel, levelOf, den, WellFormed};
@@ -61,11 +61,49 @@ fn hash(a: u32, b: u32, c: u32, n: usize) -> usize
     remainder((a as usize) + 3 * (b as usize) + (c as usize), n)
 }
 
+// ---- the parts of `work`, behind its first word
+
+// How many words there are behind the first.
+fn parted(work: &[u32]) -> usize
+    ensures { λ r. ⌜ r ≡ parted (now (work .entry)) ⌝ }
+{
+    if 0 < work.len() { work.len() - 1 } else { 0 }
+}
+
+// How many entries have a link: as many as the first word says, the table's length, but at most half of the words behind it.
+fn covers(work: &[u32]) -> usize
+    ensures { λ r. ⌜ r ≡ covers (now (work .entry)) ⌝ }
+{
+    if work.len() == 0 {
+        return 0;
+    }
+    let entries = work[0] as usize;
+    let most = (work.len() - 1) / 2;
+    if entries < most { entries } else { most }
+}
+
+// How many heads the index has.
+fn hashes(work: &[u32]) -> usize
+    ensures { λ r. ⌜ r ≡ hashes (now (work .entry)) ⌝ }
+{
+    (parted(work) - covers(work)) / 3
+}
+
+// Where the memory begins.
+fn memory_at(work: &[u32]) -> usize
+    ensures { λ r. ⌜ r ≡ memoryAt (now (work .entry)) ⌝ }
+{
+    1 + covers(work) + hashes(work)
+}
+
 // How many entries the index covers.
 fn covered(work: &[u32]) -> usize
     ensures { λ r. ⌜ r ≡ coverage (headsIn (now (work .entry))) (linksIn (now (work .entry))) ⌝ }
 {
-    work.len() / 4
+    if hashes(work) == 0 {
+        return 0;
+    }
+    covers(work)
 }
 
 // The node of level v with children lo and hi, if it is one of the entries from `from` on.
@@ -109,13 +147,13 @@ fn find_chained(
     requires { ⌜ lo < maxLength ⌝ }
     ensures { λ r. ⌜ FindsBelow (coverage (headsIn (now (work .entry))) (linksIn (now (work .entry)))) (table-in packed high used) v lo hi r ⌝ }
 {
-    let n = work.len() / 4;
+    let n = hashes(work);
     if n == 0 {
         return Found::Nothing;
     }
     let word = (v as u32) * 1048576 + lo;
     let h = hash(v as u32, lo, hi, n);
-    let mut i = work[n + h];
+    let mut i = work[1 + covers(work) + h];
     while 2 <= i {
         let at = i as usize;
         if packed[at] == word {
@@ -123,7 +161,7 @@ fn find_chained(
                 return Found::At(i);
             }
         }
-        i = work[at];
+        i = work[1 + at];
     }
     Found::Nothing
 }
@@ -145,12 +183,12 @@ fn find(packed: &[u32], high: &[u32], work: &[u32], used: u32, v: u8, lo: u32, h
 fn link(work: &mut [u32], used: u32, v: u8, lo: u32, hi: u32)
     ensures { λ _. ⌜ Linking (now (work .entry)) used v lo hi (now (work .exit)) ⌝ }
 {
-    let n = work.len() / 4;
     let at = used as usize;
-    if at < n {
-        let h = hash(v as u32, lo, hi, n);
-        work[at] = work[n + h];
-        work[n + h] = used;
+    if at < covered(work) {
+        let h = hash(v as u32, lo, hi, hashes(work));
+        let head = 1 + covers(work) + h;
+        work[1 + at] = work[head];
+        work[head] = used;
     }
 }
 
@@ -359,7 +397,7 @@ fn split_at_top(packed: &[u32], high: &[u32], used: u32, op: u32, f: u32, g: u32
 fn slots(work: &[u32]) -> usize
     ensures { λ r. ⌜ r ≡ slotsIn (now (work .entry)) ⌝ }
 {
-    (work.len() - 2 * (work.len() / 4)) / 4
+    (parted(work) - covers(work) - hashes(work)) / 4
 }
 
 // The result of an operation, where the memory has it.
@@ -371,7 +409,7 @@ fn recall(work: &[u32], op: u32, f: u32, g: u32) -> Found
     if n == 0 {
         return Found::Nothing;
     }
-    let at = 2 * (work.len() / 4) + 4 * hash(op, f, g, n);
+    let at = memory_at(work) + 4 * hash(op, f, g, n);
     if work[at] == op + 1 {
         if work[at + 1] == f {
             if work[at + 2] == g {
@@ -387,7 +425,7 @@ fn write_slot(work: &mut [u32], s: usize, op: u32, f: u32, g: u32, r: u32)
     requires { ⌜ (s < slotsIn (now work)) × (op ≤ lastNumber) ⌝ }
     ensures { λ _. ⌜ Keeping (now (work .entry)) op f g r (now (work .exit)) ⌝ }
 {
-    let at = 2 * (work.len() / 4) + 4 * s;
+    let at = memory_at(work) + 4 * s;
     work[at] = op + 1;
     work[at + 1] = f;
     work[at + 2] = g;
@@ -509,7 +547,7 @@ fn recall_three(work: &[u32], v: u8, f: u32) -> Held
     if n == 0 {
         return Held::Nothing;
     }
-    let at = 2 * (work.len() / 4) + 4 * hash(v as u32, f, 0, n);
+    let at = memory_at(work) + 4 * hash(v as u32, f, 0, n);
     if work[at] == number_of(v, f) + 1 {
         return Held::At(Trio {
             zero: work[at + 1],
@@ -670,13 +708,17 @@ fn constants(packed: &mut [u32], high: &mut [u32])
     high[1] = 1;
 }
 
-// A table of the constants alone, of which 2 entries are in use, with an empty index and memory.
+// A table of the constants alone, of which 2 entries are in use, with an empty index and memory. The parts of `work` are cut
+// by the table's length, which goes to its first word.
 pub fn start(packed: &mut [u32], high: &mut [u32], work: &mut [u32])
     requires { ⌜ Fits (now packed) (now high) ⌝ }
     ensures { λ _. ⌜ Starts (now (packed .exit)) (now (high .exit)) (now (work .exit)) ⌝ }
 {
     constants(packed, high);
     clear(work);
+    if 0 < work.len() {
+        work[0] = packed.len() as u32;
+    }
 }
 
 // Writes the levels of the entries in use to `level`, and leaves their low children in `low`.
