@@ -26,8 +26,8 @@ enum {
  * level, low and high are the table: of one length, 2 to 1,048,576. A refusal 1 to 7 leaves them untouched; after a verdict they hold
  * an ordered, reduced table without duplicates, in which seipolku_look_up reads.
  * head, next and memo are for work: any length, also 0, and any content. No answer depends on them, only the time. All work is done in memo
- * (hash index in its first half, computed table in the second); head and next are not touched. Lend memo four words an entry, and head and
- * next with length 0. With fewer than four words for each node that is needed the time grows with the square of the nodes not covered.
+ * (hash index and computed table); head and next are not touched. Lend memo four words an entry, and head and next with length 0. With
+ * fewer than two words for each node that is needed the time grows with the square of the nodes that the index does not cover.
  */
 uint64_t seipolku_compare(const uint8_t *left, size_t left_len, const uint8_t *right, size_t right_len, uint64_t mode, uint64_t limit,
                           uint8_t *level, size_t level_len, uint32_t *low, size_t low_len, uint32_t *high, size_t high_len,
