@@ -119,16 +119,17 @@ pub fn calls(random: &mut Random, pair: &Pair) -> Vec<Call> {
 }
 
 /// Lengths of the work slices, each on its own: none, one, odd and large.
-/// A large list takes long with little work memory, so it seldom or never has less than this length.
+/// A large list takes long with little work memory, so it seldom or never has less than two words an entry.
 pub fn work(random: &mut Random, length: usize) -> [usize; 3] {
     let little = length <= 400 || length <= 2000 && random.once_in(16);
     [0; 3].map(|_| {
         let odd = 2 * random.below(length) + 1;
-        let large = 2 * length + random.below(1000);
+        let enough = 2 * length + 2;
+        let large = 4 * length + random.below(1000);
         if little {
             random.pick(&[0, 1, odd, length, large])
         } else {
-            random.pick(&[length, length | 1, large])
+            random.pick(&[enough, enough | 1, large])
         }
     })
 }
