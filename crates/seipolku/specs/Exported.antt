@@ -27,9 +27,20 @@ answered words (Equal l r b rounds nodes) = six words l r b rounds nodes 0
 answered words (Different l r rounds nodes) = six words l r 0 rounds nodes 0
 answered words (Refused number side line) = six words number side line 0 0 0
 
--- The contract of the exported comparison. With fewer than six words for the answer it returns 3 and touches nothing.
-pub record Exported (l r : List ℕ) (mode limit : ℕ) (before after : Slices) (words words′ : List ℕ) (returned : ℕ) : Type 0 where
-  pub short : length words < 6 → (returned ≡ 3) × (after ≡ before) × (words′ ≡ words)
+-- the slices lent for work
+pub record Work : Type 0 where
+  pub head : List ℕ
+  pub next : List ℕ
+  pub memo : List ℕ
+
+abbrev pub work : List ℕ → List ℕ → List ℕ → Work
+work head next memo = record { head = head; next = next; memo = memo }
+
+-- The contract of the exported comparison. With fewer than six words for the answer it returns 3 and touches nothing. Of the work slices
+-- `head` and `next` are never touched, and `memo` is free afterwards.
+pub record Exported (l r : List ℕ) (mode limit : ℕ) (before after : Slices) (w w′ : Work) (words words′ : List ℕ) (returned : ℕ) : Type 0 where
+  pub untouched : (w′ .head ≡ w .head) × (w′ .next ≡ w .next)
+  pub short : length words < 6 → (returned ≡ 3) × (after ≡ before) × (w′ ≡ w) × (words′ ≡ words)
   pub long : 6 ≤ length words → (a : Answer) × Compared l r mode limit before after a × (returned ≡ kindOf a) × (words′ ≡ answered words a)
 
 -- a look-up's value, or the number of its refusal

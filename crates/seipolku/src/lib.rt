@@ -3,7 +3,7 @@ ghost use mathlib.Core.Path.{_≡_};
 ghost use Prim.Native.Nat.{_≤_};
 ghost use lib.ListN.{length};
 ghost use Rattle.nodes.specs.Lookup.{slices, look-up};
-ghost use Rattle.seipolku.specs.Exported.{six, answered, kindOf, Exported, numbered};
+ghost use Rattle.seipolku.specs.Exported.{six, answered, kindOf, work, Exported, numbered};
 use nodes::lookup::Looked;
 use nodes::lookup::look_up;
 use verdicts::Answer;
@@ -78,7 +78,7 @@ pub extern "C" fn seipolku_compare(
     memo: &mut [u32],
     answer: &mut [u64],
 ) -> u64
-    ensures { λ r. ⌜ Exported (now (left .entry)) (now (right .entry)) mode limit (slices (now (level .entry)) (now (low .entry)) (now (high .entry))) (slices (now (level .exit)) (now (low .exit)) (now (high .exit))) (now (answer .entry)) (now (answer .exit)) r ⌝ }
+    ensures { λ r. ⌜ Exported (now (left .entry)) (now (right .entry)) mode limit (slices (now (level .entry)) (now (low .entry)) (now (high .entry))) (slices (now (level .exit)) (now (low .exit)) (now (high .exit))) (work (now (head .entry)) (now (next .entry)) (now (memo .entry))) (work (now (head .exit)) (now (next .exit)) (now (memo .exit))) (now (answer .entry)) (now (answer .exit)) r ⌝ }
 {
     if answer.len() < 6 {
         return 3;
