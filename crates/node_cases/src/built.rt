@@ -1,10 +1,10 @@
 // Functions built by the operations of `nodes`, shown as truth tables over the four lowest levels by look-up.
-ghost use Rattle.nodes.specs.Start.{Fits};
-ghost use Rattle.nodes.specs.Lent.{holding, leaving};
-ghost use Rattle.nodes.specs.Work.{Ready};
-use nodes::Room;
+ghost use Rattle.nodes.specs.internal.Start.{Fits};
+ghost use Rattle.nodes.specs.internal.Lent.{holding, leaving};
+ghost use Rattle.nodes.specs.internal.Work.{Ready};
 use nodes::lookup::Looked;
 use nodes::lookup::look_up;
+use nodes::room::Room;
 
 // The entries of the functions, and the room that they leave.
 pub struct Roots {
@@ -24,13 +24,13 @@ fn build(room: Room, packed: &mut [u32], high: &mut [u32], work: &mut [u32]) -> 
     requires { ⌜ Ready (holding packed high work room) ⌝ }
     ensures { λ r. ⌜ Ready (leaving packed high work (r .room)) ⌝ }
 {
-    let a = nodes::number_is(5, 0, 1, 3, room, packed, high, work);
-    let b = nodes::number_is(6, 0, 1, 3, a, packed, high, work);
-    let c = nodes::or(a.root, b.root, b, packed, high, work);
-    let d = nodes::not(a.root, c, packed, high, work);
-    let e = nodes::and(d.root, c.root, d, packed, high, work);
-    let f = nodes::exists(c.root, 0, e, packed, high, work);
-    let g = nodes::rename(c.root, 2, 3, f, packed, high, work);
+    let a = nodes::single::number_is(5, 0, 1, 3, room, packed, high, work);
+    let b = nodes::single::number_is(6, 0, 1, 3, a, packed, high, work);
+    let c = nodes::calls::or(a.root, b.root, b, packed, high, work);
+    let d = nodes::calls::not(a.root, c, packed, high, work);
+    let e = nodes::calls::and(d.root, c.root, d, packed, high, work);
+    let f = nodes::calls::exists(c.root, 0, e, packed, high, work);
+    let g = nodes::levels::rename(c.root, 2, 3, f, packed, high, work);
     Roots {
         five: a.root,
         six: b.root,
@@ -48,7 +48,7 @@ fn begin(packed: &mut [u32], high: &mut [u32], work: &mut [u32]) -> Roots
     requires { ⌜ Fits (now packed) (now high) ⌝ }
     ensures { λ r. ⌜ Ready (leaving packed high work (r .room)) ⌝ }
 {
-    nodes::start(packed, high, work);
+    nodes::start::start(packed, high, work);
     let room = Room {
         used: 2,
         full: false,
@@ -108,6 +108,6 @@ pub fn built() {
     if room.full {
         return;
     }
-    nodes::unpack(&mut level, &mut low, room.used);
+    nodes::start::unpack(&mut level, &mut low, room.used);
     show_all(r, &level, &low, &high);
 }

@@ -11,16 +11,16 @@ use native.Mathlib.Omega.{arith}
 use lib.Dec.{eqb, ltb}
 use lib.ListN.{length, getD, set, length-set}
 use borrow.Author.Tests.{eq-eqb, ne-eqb, lt-ltb, le-ltb}
-use Rattle.nodes.specs.declared.Made.the-variants as made
-use Rattle.nodes.specs.declared.Found.the-variants as found
+use Rattle.nodes.specs.declared.unique.Made.the-variants as made
+use Rattle.nodes.specs.declared.unique.Found.the-variants as found
 use Rattle.nodes.specs.Fun.{Fun}
 use Rattle.nodes.specs.Table.{Table, table, maxLength, levelOf, WellFormed}
-use Rattle.nodes.specs.Packed.{packing, levels, lows, packed-table}
-use Rattle.nodes.specs.Parts.{covers, hashes, headsAt, memoryAt, linksIn, headsIn, memoIn}
-use Rattle.nodes.specs.Index.{hashOf, coverage, Indexed, Indexing, Linked, Linking}
-use Rattle.nodes.specs.Make.{Makeable, IsNode, Finds, nodeFun, Makes, Making, MadeFull}
-use Rattle.nodes.specs.Operate.{cofactorOf, slotsIn, Holds, Stores, Keeping, Finishing}
-use Rattle.nodes.specs.Work.{isDeeper}
+use Rattle.nodes.specs.internal.Packed.{packing, levels, lows, packed-table}
+use Rattle.nodes.specs.internal.Parts.{covers, hashes, headsAt, memoryAt, linksIn, headsIn, memoIn}
+use Rattle.nodes.specs.internal.Index.{hashOf, coverage, Indexed, Indexing, Linked, Linking}
+use Rattle.nodes.specs.internal.Make.{Makeable, IsNode, Finds, nodeFun, Makes, Making, MadeFull}
+use Rattle.nodes.specs.internal.Operate.{cofactorOf, slotsIn, Holds, Stores, Keeping, Finishing}
+use Rattle.nodes.specs.internal.Work.{isDeeper}
 use Rattle.nodes.proofs.Funs.{by-eq}
 use Rattle.nodes.proofs.Parting.{packed-level, packed-low, packed-again, levels-length, level-at, low-at, levels-set, lows-set, links-length, heads-length, memo-length, link-at, head-at, memo-at, same-covers, same-hashes, same-memory, links-set-link, heads-set-link, memo-set-link, links-set-head, heads-set-head, memo-set-head, links-set-memo, heads-set-memo, memo-set-memo}
 use Rattle.nodes.proofs.Indexing.{coverage-none, coverage-some, Chained, chained-start, chained-next, chain-falls, chain-within, linked-none, linked-at}

@@ -9,9 +9,7 @@ use lib.ListN.{length}
 use Rattle.nodes.specs.Fun.{Assignment, Fun}
 use Rattle.nodes.specs.Table.{Table, table, lastLevel, maxLength, levelOf, lowOf, highOf, choice, den, WellFormed}
 use Rattle.nodes.proofs.Tables.{den-0, den-1, den-node}
-use Rattle.nodes.specs.Lookup.{looked-up}
-use Rattle.nodes.specs.Lookup.{Slices, table-fits}
-use Rattle.nodes.specs.Lookup.{ending, walk-from, small, look-up}
+use Rattle.nodes.specs.Lookup.{looked-up, Slices, table-fits, ending, walk-from, small, look-up}
 
 module _ (s : Slices) (used : ℕ) (formed : WellFormed (table (s .level) (s .low) (s .high) used)) (a : Assignment) where
   abbrev t : Table

@@ -5,8 +5,8 @@ use Prim.Native.Nat.{ℕ, zero, suc, _+_, _-_, _*_, _/_, _%_, _<_, _≤_, min}
 use native.Mathlib.Omega.{arith}
 use lib.ListN.{length, getD, set, take, drop, length-set, length-drop, length-map, List·getD-map}
 use lib.Seq.{length-take-le, take-set-le, take-set-lt, drop-set-lt, drop-set-add, getD-take, getD-drop, getD-set-other}
-use Rattle.nodes.specs.Packed.{packing, levelIn, lowIn, levels, lows}
-use Rattle.nodes.specs.Parts.{parted, covers, hashes, headsAt, memoryAt, linksIn, headsIn, memoIn}
+use Rattle.nodes.specs.internal.Packed.{packing, levelIn, lowIn, levels, lows}
+use Rattle.nodes.specs.internal.Parts.{parted, covers, hashes, headsAt, memoryAt, linksIn, headsIn, memoIn}
 
 -- ---- a packed list
 

@@ -10,22 +10,23 @@ use mathlib.Core.List.{List, [], _∷_, List·Memᴰ, List·Memᴰ·head, List·
 use Prim.Native.Nat.{ℕ, suc, _-_, _/_, _%_, _<_, _≤_}
 use native.Mathlib.Omega.{arith}
 use lib.ListN.{length}
-use Rattle.nodes.specs.declared.Made.the-variants as made
-use Rattle.nodes.specs.declared.Room.{Room}
-use Rattle.nodes.specs.declared.Trio.{Trio}
-use Rattle.nodes.specs.declared.Three.{Three}
-use Rattle.nodes.specs.declared.Three.the-variants as three
-use Rattle.nodes.specs.declared.Held.the-variants as held
+use Rattle.nodes.specs.declared.unique.Made.the-variants as made
+use Rattle.nodes.specs.declared.room.Room.{Room}
+use Rattle.nodes.specs.declared.quantify.Trio.{Trio}
+use Rattle.nodes.specs.declared.quantify.Three.{Three}
+use Rattle.nodes.specs.declared.quantify.Three.the-variants as three
+use Rattle.nodes.specs.declared.quantify.Held.the-variants as held
 use Rattle.nodes.specs.Fun.{Fun, either, fixed, exists, Part, From}
 use Rattle.nodes.specs.Formula.{some, value}
-use Rattle.nodes.specs.Table.{Table, lastLevel, levelOf, choice, den, WellFormed, Extends}
-use Rattle.nodes.specs.Packed.{levels, lows, packed-table}
-use Rattle.nodes.specs.Parts.{headsIn, linksIn, memoIn}
-use Rattle.nodes.specs.Index.{Indexed}
-use Rattle.nodes.specs.Make.{Makeable, nodeFun, Making}
-use Rattle.nodes.specs.Operate.{operation, Operands, cofactorOf, Cofactor, Quantified, quantifying, Recalls, Remembered, Stores, Keeping, Operating}
-use Rattle.nodes.specs.Work.{Added, Has, Lacks, Store, store, roomOf, appliesTo, Ready, Keeps, After, Does, stayed, grew, filled, Stands, Maps}
-use Rattle.nodes.specs.Quantify.{Funs, listed, results-of, Entry, Trebled, Quantifiable, MakeableThree, nodeFuns, RecalledThree, LacksThree, MakingThree, FinishingThree, Quantifying, anyOf}
+use Rattle.nodes.specs.Table.{Table, lastLevel, levelOf, choice, den, WellFormed}
+use Rattle.nodes.specs.internal.Growth.{Extends}
+use Rattle.nodes.specs.internal.Packed.{levels, lows, packed-table}
+use Rattle.nodes.specs.internal.Parts.{headsIn, linksIn, memoIn}
+use Rattle.nodes.specs.internal.Index.{Indexed}
+use Rattle.nodes.specs.internal.Make.{Makeable, nodeFun, Making}
+use Rattle.nodes.specs.internal.Operate.{operation, Operands, cofactorOf, Cofactor, Quantified, quantifying, Recalls, Remembered, Stores, Keeping, Operating}
+use Rattle.nodes.specs.internal.Work.{Added, Has, Lacks, Store, store, roomOf, appliesTo, Ready, Keeps, After, Does, stayed, grew, filled, Stands, Maps}
+use Rattle.nodes.specs.internal.Quantify.{Funs, listed, results-of, Entry, Trebled, Quantifiable, MakeableThree, nodeFuns, RecalledThree, LacksThree, MakingThree, FinishingThree, Quantifying, anyOf}
 use Rattle.nodes.proofs.Funs.{shannon, from-put, from-fixed, part-fixed, part-refl}
 use Rattle.nodes.proofs.Parting.{levels-length}
 use Rattle.nodes.proofs.Tables.{den-from, den-extends}

@@ -10,9 +10,7 @@ use lib.Dec.{eqb}
 use lib.ListN.{length, getD}
 use Rattle.nodes.specs.Fun.{Assignment}
 use Rattle.nodes.specs.Table.{lastLevel}
-use Rattle.nodes.specs.Lookup.{looked-up}
-use Rattle.nodes.specs.Lookup.{Slices, table-fits}
-use Rattle.nodes.specs.Lookup.{walk-from, small, look-up}
+use Rattle.nodes.specs.Lookup.{looked-up, Slices, table-fits, walk-from, small, look-up}
 use Rattle.nodes.proofs.Working.{and-both}
 use Rattle.nodes.specs.declared.lookup.Looked.the-variants.{Value, Turned}
 

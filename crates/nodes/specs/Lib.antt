@@ -2,14 +2,5 @@ pub mod Fun
 pub mod Formula
 pub mod Needed
 pub mod Table
-pub mod Packed
-pub mod Parts
-pub mod Index
-pub mod Make
-pub mod Operate
-pub mod Start
-pub mod Work
-pub mod Quantify
-pub mod Lent
-pub mod Single
 pub mod Lookup
+pub mod internal

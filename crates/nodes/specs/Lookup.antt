@@ -6,9 +6,8 @@ use lib.Dec.{ltb, leb, eqb}
 use lib.ListN.{length, getD}
 use Rattle.nodes.specs.declared.lookup.Looked.{Looked}
 use Rattle.nodes.specs.declared.lookup.Looked.the-variants.{Value, Turned}
-use Rattle.nodes.specs.Fun.{Assignment}
+use Rattle.nodes.specs.Fun.{Assignment, digit}
 use Rattle.nodes.specs.Formula.{bit}
-use Rattle.nodes.specs.Single.{digit}
 use Rattle.nodes.specs.Table.{lastLevel, maxBits, maxLength}
 
 -- ---- the slices of a table

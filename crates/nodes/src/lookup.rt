@@ -4,7 +4,7 @@ ghost use Prim.Native.Nat.{ℕ, _+_, _≤_};
 ghost use lib.ListN.{length};
 ghost use Rattle.nodes.specs.Table.{lastLevel};
 ghost use Rattle.nodes.specs.Lookup.{slices, table-fits, small, looked-up, walk-from, look-up};
-use super::digit_at;
+use super::levels::digit_at;
 
 // What a look-up answers: the value at the end of its walk, or a refusal.
 pub enum Looked {

@@ -3,9 +3,7 @@ use mathlib.Core.Path.{_≡_, refl, sym, _∙_}
 use mathlib.Core.Logic.{⊎-elim}
 use native.Mathlib.Omega.{arith}
 use borrow.Author.Needs.{needs}
-use Rattle.nodes.specs.Lookup.{looked-up}
-use Rattle.nodes.specs.Lookup.{slices}
-use Rattle.nodes.specs.Lookup.{walk-from}
+use Rattle.nodes.specs.Lookup.{looked-up, slices, walk-from}
 use Rattle.nodes.proofs.Walking.{walk-none, walk-0, walk-1, walk-outside, walk-low, walk-high, walk-up, walk-down}
 use Rattle.nodes.proofs.lookup.walk.Statement.{statement}
 use Rattle.nodes.proofs.lookup.walk.Tie as tie

@@ -1,0 +1,55 @@
+// How a table begins, and how it is left in the three slices of document 01.
+ghost use Prim.Native.Nat.{_-_};
+ghost use Rattle.nodes.specs.internal.Packed.{packed-table};
+ghost use Rattle.nodes.specs.internal.Start.{Clear, Fits, Starts, Unpackable, Unpacks};
+ghost use Rattle.nodes.specs.Table.{WellFormed};
+
+// Sets every number of s to 0.
+fn clear(s: &mut [u32])
+    ensures { λ _. ⌜ Clear (now (s .exit)) ⌝ }
+{
+    let mut i = 0;
+    while i < s.len() {
+        s[i] = 0;
+        i += 1;
+    }
+}
+
+// Writes the constants to the first two entries: level 255, and each its own child.
+fn constants(packed: &mut [u32], high: &mut [u32])
+    requires { ⌜ Fits (now packed) (now high) ⌝ }
+    ensures { λ _. ⌜ WellFormed (packed-table (now (packed .exit)) (now (high .exit)) 2) ⌝ }
+{
+    packed[0] = 267386880;
+    packed[1] = 267386881;
+    high[0] = 0;
+    high[1] = 1;
+}
+
+// A table of the constants alone, of which 2 entries are in use, with an empty index and memory. The parts of `work` are cut
+// by the table's length, which goes to its first word.
+pub fn start(packed: &mut [u32], high: &mut [u32], work: &mut [u32])
+    requires { ⌜ Fits (now packed) (now high) ⌝ }
+    ensures { λ _. ⌜ Starts (now (packed .exit)) (now (high .exit)) (now (work .exit)) ⌝ }
+{
+    constants(packed, high);
+    clear(work);
+    if 0 < work.len() {
+        work[0] = packed.len() as u32;
+    }
+}
+
+// Writes the levels of the entries in use to `level`, and leaves their low children in `low`.
+pub fn unpack(level: &mut [u8], low: &mut [u32], used: u32)
+    requires { ⌜ Unpackable (now level) (now low) used ⌝ }
+    ensures { λ _. ⌜ Unpacks (now (low .entry)) used (now (level .exit)) (now (low .exit)) ⌝ }
+{
+    let mut i: u32 = 0;
+    while i < used {
+        let at = i as usize;
+        let word = low[at];
+        level[at] = (word / 1048576) as u8;
+        low[at] = word % 1048576;
+        i += 1;
+    }
+}

@@ -1,0 +1,143 @@
+// The unique table: a node is found by its level and its children, and made only where there is none.
+ghost use Prim.Native.Nat.{_-_, _<_};
+ghost use Rattle.nodes.specs.internal.Parts.{linksIn, headsIn};
+ghost use Rattle.nodes.specs.Table.{maxLength, WellFormed};
+ghost use Rattle.nodes.specs.internal.Index.{coverage, Indexing, Linking};
+ghost use Rattle.nodes.specs.internal.Make.{Makeable, FindsFrom, FindsBelow, Finds, Making, nodeFun};
+ghost use Rattle.nodes.specs.internal.Lent.{table-of, table-in};
+use super::work::covered;
+use super::work::covers;
+use super::work::hash;
+use super::work::hashes;
+
+// The answer of an operation: the entry of its result with the number of entries then in use, or
+// that the table is too short.
+pub enum Made {
+    At(u32, u32),
+    Full,
+}
+
+pub enum Found {
+    At(u32),
+    Nothing,
+}
+
+// The node of level v with children lo and hi, if it is one of the entries from `from` on.
+fn find_from(packed: &[u32], high: &[u32], used: u32, from: usize, v: u8, lo: u32, hi: u32) -> Found
+    requires { ⌜ WellFormed (table-of packed high used) ⌝ }
+    requires { ⌜ lo < maxLength ⌝ }
+    ensures { λ r. ⌜ FindsFrom from (table-in packed high used) v lo hi r ⌝ }
+{
+    if (used as usize) <= from {
+        return Found::Nothing;
+    }
+    let mut i: u32 = 2;
+    if 2 < from {
+        i = from as u32;
+    }
+    let word = (v as u32) * 1048576 + lo;
+    while i < used {
+        let at = i as usize;
+        if packed[at] == word {
+            if high[at] == hi {
+                return Found::At(i);
+            }
+        }
+        i += 1;
+    }
+    Found::Nothing
+}
+
+// The same among the entries that the index covers, by their chain.
+fn find_chained(
+    packed: &[u32],
+    high: &[u32],
+    work: &[u32],
+    used: u32,
+    v: u8,
+    lo: u32,
+    hi: u32,
+) -> Found
+    requires { ⌜ WellFormed (table-of packed high used) ⌝ }
+    requires { ⌜ Indexing (table-of packed high used) (now work) ⌝ }
+    requires { ⌜ lo < maxLength ⌝ }
+    ensures { λ r. ⌜ FindsBelow (coverage (headsIn (now (work .entry))) (linksIn (now (work .entry)))) (table-in packed high used) v lo hi r ⌝ }
+{
+    let n = hashes(work);
+    if n == 0 {
+        return Found::Nothing;
+    }
+    let word = (v as u32) * 1048576 + lo;
+    let h = hash(v as u32, lo, hi, n);
+    let mut i = work[1 + covers(work) + h];
+    while 2 <= i {
+        let at = i as usize;
+        if packed[at] == word {
+            if high[at] == hi {
+                return Found::At(i);
+            }
+        }
+        i = work[1 + at];
+    }
+    Found::Nothing
+}
+
+// The same among all entries in use.
+fn find(packed: &[u32], high: &[u32], work: &[u32], used: u32, v: u8, lo: u32, hi: u32) -> Found
+    requires { ⌜ WellFormed (table-of packed high used) ⌝ }
+    requires { ⌜ Indexing (table-of packed high used) (now work) ⌝ }
+    requires { ⌜ lo < maxLength ⌝ }
+    ensures { λ r. ⌜ Finds (table-in packed high used) v lo hi r ⌝ }
+{
+    match find_chained(packed, high, work, used, v, lo, hi) {
+        Found::At(i) => Found::At(i),
+        Found::Nothing => find_from(packed, high, used, covered(work), v, lo, hi),
+    }
+}
+
+// Puts the new node `used` of level v with children lo and hi into the index, where that covers it.
+fn link(work: &mut [u32], used: u32, v: u8, lo: u32, hi: u32)
+    ensures { λ _. ⌜ Linking (now (work .entry)) used v lo hi (now (work .exit)) ⌝ }
+{
+    let at = used as usize;
+    if at < covered(work) {
+        let h = hash(v as u32, lo, hi, hashes(work));
+        let head = 1 + covers(work) + h;
+        work[1 + at] = work[head];
+        work[head] = used;
+    }
+}
+
+// The entry of the function that is hi's where level v is true and lo's elsewhere: a new node only
+// where there is none.
+pub fn make(
+    packed: &mut [u32],
+    high: &mut [u32],
+    work: &mut [u32],
+    used: u32,
+    v: u8,
+    lo: u32,
+    hi: u32,
+) -> Made
+    requires { ⌜ Makeable (table-of packed high used) v lo hi ⌝ }
+    requires { ⌜ Indexing (table-of packed high used) (now work) ⌝ }
+    ensures { λ r. ⌜ Making (table-in packed high used) (now (packed .exit)) (now (high .exit)) (now (work .entry)) (now (work .exit)) (nodeFun (table-in packed high used) v lo hi) r ⌝ }
+{
+    if lo == hi {
+        return Made::At(lo, used);
+    }
+    match find(packed, high, work, used, v, lo, hi) {
+        Found::At(i) => Made::At(i, used),
+        Found::Nothing => {
+            let at = used as usize;
+            if at < packed.len() {
+                packed[at] = (v as u32) * 1048576 + lo;
+                high[at] = hi;
+                link(work, used, v, lo, hi);
+                Made::At(used, used + 1)
+            } else {
+                Made::Full
+            }
+        }
+    }
+}
