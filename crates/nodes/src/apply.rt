@@ -118,7 +118,7 @@ pub(crate) fn smaller(a: u8, b: u8) -> u8
     if a < b { a } else { b }
 }
 
-pub(crate) fn larger(a: u8, b: u8) -> u8
+pub fn larger(a: u8, b: u8) -> u8
     ensures { λ r. ⌜ r ≡ max a b ⌝ }
 {
     if a < b { b } else { a }

@@ -1,4 +1,4 @@
 -- The vocabulary between functions of this crate and of those above it. No contract of a public entry cites it.
 pub mod Calls
-pub mod Decides
+pub mod Runs
 pub mod Prepares
