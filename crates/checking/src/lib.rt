@@ -1,12 +1,16 @@
 // Reads left.hex and right.hex, compares the models strongly and weakly, and prints both answers.
 ghost use Prim.Native.Nat.{_≤_};
 ghost use lib.ListN.{length};
+ghost use Rattle.checking.specs.Program.{Program};
 use libc::STDOUT_FILENO;
 use verdicts::Answer;
 use verdicts::compare::compare;
 
 // The largest text: 64 lines of 255 bytes, two digits a byte, with their 0A.
 const MAX_TEXT: usize = 32704;
+
+// The entries of the table.
+const LENGTH: usize = 4096;
 
 // The most rounds.
 const LIMIT: u64 = 1000000;
@@ -100,12 +104,14 @@ fn print_answer(answer: Answer) {
     say(b"\n");
 }
 
-// Compares in one mode, with a table of 4,096 entries.
-fn compare_in(left: &[u8], right: &[u8], mode: u64) -> Answer {
-    let mut level = [0u8; 4096];
-    let mut low = [0u32; 4096];
-    let mut high = [0u32; 4096];
-    let mut work = [0u32; 16384];
+// Compares in one mode.
+fn compare_in(left: &[u8], right: &[u8], mode: u64) -> Answer
+    ensures { λ r. ⌜ Program (now (left .entry)) (now (right .entry)) mode r ⌝ }
+{
+    let mut level = [0u8; LENGTH];
+    let mut low = [0u32; LENGTH];
+    let mut high = [0u32; LENGTH];
+    let mut work = [0u32; 4 * LENGTH];
     compare(
         left,
         right,

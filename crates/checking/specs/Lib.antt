@@ -1,0 +1,2 @@
+-- What the program's comparisons answer.
+pub mod Program
