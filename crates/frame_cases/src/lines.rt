@@ -9,6 +9,9 @@ use frames::reader::state_from;
 
 const SHORT: usize = 16;
 
+// No text here has more lines.
+const MOST: usize = 66;
+
 fn digits(text: &[u8], at: usize) {
     let d = digits_from(text, at);
     number(d.len() as u64);
@@ -39,14 +42,14 @@ fn line(text: &[u8], at: usize) -> bool {
     }
 }
 
-// One text, which has at most 66 lines.
+// One text.
 fn lines(name: &[u8], text: &[u8]) {
     say(b"reader, ");
     say(name);
     say(b":");
     let mut at = 0;
     let mut left = true;
-    for k in 0..67 {
+    for k in 0..MOST + 1 {
         if left {
             left = line(text, at);
             at = after_from(text, at);
