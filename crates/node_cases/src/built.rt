@@ -48,12 +48,7 @@ fn begin(packed: &mut [u32], high: &mut [u32], work: &mut [u32]) -> Roots
     requires { ⌜ Fits (now packed) (now high) ⌝ }
     ensures { λ r. ⌜ Ready (leaving packed high work (r .room)) ⌝ }
 {
-    nodes::start::start(packed, high, work);
-    let room = Room {
-        used: 2,
-        full: false,
-        root: 0,
-    };
+    let room = nodes::start::start(packed, high, work);
     build(room, packed, high, work)
 }
 
@@ -108,6 +103,6 @@ pub fn built() {
     if room.full {
         return;
     }
-    nodes::start::unpack(&mut level, &mut low, room.used);
+    nodes::start::unpack(&mut level, &mut low, &high, room);
     show_all(r, &level, &low, &high);
 }

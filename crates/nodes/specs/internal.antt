@@ -10,3 +10,4 @@ pub mod Work
 pub mod Quantify
 pub mod Lent
 pub mod Single
+pub mod Zero

@@ -12,3 +12,4 @@ pub mod single;
 pub mod start;
 pub mod unique;
 pub mod work;
+pub mod zero;

@@ -4,8 +4,7 @@ ghost use Prim.Native.Nat.{_≤_};
 ghost use lib.ListN.{length};
 ghost use Rattle.nodes.specs.Table.{maxLength};
 ghost use Rattle.nodes.specs.Fun.{digit};
-ghost use Rattle.nodes.specs.internal.Single.{rooted};
-ghost use Rattle.nodes.specs.internal.Work.{roomOf, appliesTo};
+ghost use Rattle.nodes.specs.internal.Work.{roomOf, rooted, appliesTo};
 use super::unique::Made;
 
 // How many entries are in use, whether a node did not fit, and the entry of the last result. Once the
@@ -61,7 +60,7 @@ pub fn constant(b: bool, room: Room) -> Room
 }
 
 // The room with another root.
-pub(crate) fn with_root(room: Room, root: u32) -> Room
+pub fn with_root(room: Room, root: u32) -> Room
     ensures { λ r. ⌜ r ≡ rooted room root ⌝ }
 {
     Room {

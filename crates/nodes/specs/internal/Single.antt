@@ -4,7 +4,6 @@ use mathlib.Core.Bool.{Bool, true, false, cond}
 use mathlib.Core.List.{[], _∷_}
 use Prim.Native.Nat.{ℕ, zero, suc, _+_, _*_, _≤_, _<_}
 use lib.Dec.{eqb, ltb}
-use Rattle.nodes.specs.declared.room.Room.{Room}
 use Rattle.nodes.specs.Fun.{Assignment, Fun, From, digit, never}
 use Rattle.nodes.specs.Table.{lastLevel, choice}
 use Rattle.nodes.specs.internal.Work.{Store, After, Does, Stands}
@@ -45,10 +44,6 @@ guarded v false F = choice v never F
 -- F where levels v and w are equal, and false elsewhere
 unfoldable pub paired : ℕ → ℕ → Fun → Fun
 paired v w F = choice v (guarded w true F) (guarded w false F)
-
--- the room with another root
-abbrev pub rooted : Room → ℕ → Room
-rooted room i = record { used = room .used; full = room .full; root = i }
 
 -- a call works out h F, where f stands for F, which reads levels from w on
 pub record Guards (s s′ : Store) (w : ℕ) (h : Fun → Fun) (f i : ℕ) : Type 0 where

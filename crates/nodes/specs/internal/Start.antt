@@ -1,11 +1,13 @@
 -- How a table begins, and how it is left. Assumes nothing.
 use mathlib.Core.Path.{_≡_}
+use mathlib.Core.Bool.{false}
 use mathlib.Core.List.{List}
 use Prim.Native.Nat.{ℕ, _≤_, _<_}
 use lib.ListN.{length, getD}
-use Rattle.nodes.specs.Table.{maxLength, WellFormed}
-use Rattle.nodes.specs.internal.Packed.{levels, lows, packed-table}
-use Rattle.nodes.specs.internal.Operate.{Helping}
+use Rattle.nodes.specs.declared.room.Room.{Room}
+use Rattle.nodes.specs.Table.{Table, table, maxLength, den, WellFormed}
+use Rattle.nodes.specs.internal.Packed.{packed-table}
+use Rattle.nodes.specs.internal.Work.{Store, Ready}
 
 abbrev pub Clear : List ℕ → Type 0
 Clear s = (k : ℕ) → getD s k 0 ≡ 0
@@ -23,18 +25,18 @@ pub record Fits (packed high : List ℕ) : Type 0 where
   pub least : 2 ≤ length packed
   pub most : length packed ≤ maxLength
 
--- the table has the constants alone, and the work list serves it
-pub record Starts (packed high work : List ℕ) : Type 0 where
-  pub formed : WellFormed (packed-table packed high 2)
-  pub helped : Helping (packed-table packed high 2) work
+-- a table of the constants alone, on which calls may be made
+pub record Starts (s : Store) : Type 0 where
+  pub ready : Ready s
+  pub not-full : s .full ≡ false
+  pub constants : s .table .used ≡ 2
 
--- the entries in use have a place in both slices, and levels that are bytes
-pub record Unpackable (level packed : List ℕ) (used : ℕ) : Type 0 where
-  pub within : used ≤ length packed
-  pub level-within : used ≤ length level
-  pub bytes : (i : ℕ) → i < used → getD (levels packed) i 0 ≤ 255
+-- a list as long as the packed one takes the levels; a table that is not full is well formed
+pub record Unpackable (level packed high : List ℕ) (room : Room) : Type 0 where
+  pub same-length : length level ≡ length packed
+  pub formed : room .full ≡ false → WellFormed (packed-table packed high (room .used))
 
--- the levels and the low children of the entries in use, apart
-pub record Unpacks (packed : List ℕ) (used : ℕ) (level′ low′ : List ℕ) : Type 0 where
-  pub level : (i : ℕ) → i < used → getD level′ i 0 ≡ getD (levels packed) i 0
-  pub low : (i : ℕ) → i < used → getD low′ i 0 ≡ getD (lows packed) i 0
+-- the table is left in document 01's three slices: the same entries in use, each standing for what it stood for
+pub record Unpacked (t : Table) (level low high : List ℕ) : Type 0 where
+  pub formed : WellFormed (table level low high (t .used))
+  pub same : (i : ℕ) → i < t .used → den (table level low high (t .used)) i ≡ den t i

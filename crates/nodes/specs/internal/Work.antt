@@ -59,6 +59,10 @@ abbrev pub roomOf : Made → ℕ → Room
 roomOf (made.At root used) length = record { used = used; full = false; root = root }
 roomOf made.Full length = record { used = length; full = true; root = 0 }
 
+-- the room with another root
+abbrev pub rooted : Room → ℕ → Room
+rooted room i = record { used = room .used; full = room .full; root = i }
+
 -- the room is not full, and f and g are entries
 abbrev pub appliesTo : Room → ℕ → ℕ → Bool
 appliesTo room f g = not (room .full) && (ltb f (room .used) && ltb g (room .used))

@@ -1,15 +1,13 @@
 -- `node_cases::built::built` meets its contract. Assumes nothing.
 use borrow.Author.Needs.{needs}
 use mathlib.Core.Path.{sym}
-use Rattle.nodes.proofs.Starting.{unpackable as can-unpack}
 use Rattle.node_cases.proofs.built.built.Statement.{statement}
 use Rattle.node_cases.proofs.built.built.Tie as tie
 
 unpack-requires : tie.Need-unpack-requires
 unpack-requires c κs =
-    let c2 = c .before .before in
-    let c1 = c2 .before .before .before .before .before in
-    can-unpack _ _ _ _ (sym (c1 .begin .kept .0)) (c1 .begin .ensures .formed (c2 .if1 .left))
+    let c1 = c .before .before .before .before .before .before .before .before in
+    record { same-length = sym (c1 .begin .kept .0); formed = c1 .begin .ensures .formed }
 
 pub built-spec : {M : Type 1} → statement M
 built-spec =
@@ -19,6 +17,7 @@ built-spec =
     (λ c. search needs)
     (λ c. search needs)
     (λ c κs. search needs)
+    (λ c. search needs)
     (λ c. search needs)
     (λ c. search needs)
     (λ c. search needs)
