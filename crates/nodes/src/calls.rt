@@ -13,9 +13,10 @@ use super::quantify::quantify;
 use super::room::Room;
 use super::room::can_apply;
 use super::room::room_after;
+use super::room::with_root;
 use super::unique::make;
 
-// The operation of a number; nothing is done where it cannot be made.
+// The operation of a number. Where it cannot be made, nothing is done, and the root is f.
 fn apply(
     op: u32,
     f: u32,
@@ -30,7 +31,7 @@ fn apply(
     ensures { λ r. ⌜ Applies (entering packed high work room) (leaving packed high work r) op f g (r .root) ⌝ }
 {
     if !can_apply(room, f, g) {
-        return room;
+        return with_root(room, f);
     }
     let m = operate(packed, high, work, room.used, op, f, g);
     room_after(m, packed.len())
@@ -113,7 +114,7 @@ pub fn exists(
     ensures { λ r. ⌜ Maps (entering packed high work room) (leaving packed high work r) (some v) f (r .root) ⌝ }
 {
     if !can_apply(room, f, f) {
-        return room;
+        return with_root(room, f);
     }
     let r = quantify(packed, high, work, room.used, v, f);
     room_after(any_of(r), packed.len())
