@@ -24,7 +24,7 @@ use Rattle.nodes.specs.internal.Packed.{levels, lows, packed-table}
 use Rattle.nodes.specs.internal.Parts.{headsIn, linksIn, memoIn}
 use Rattle.nodes.specs.internal.Index.{Indexed}
 use Rattle.nodes.specs.internal.Make.{Makeable, nodeFun, Making}
-use Rattle.nodes.specs.internal.Operate.{operation, Operands, cofactorOf, Cofactor, Quantified, quantifying, Recalls, Remembered, Stores, Keeping, Operating}
+use Rattle.nodes.specs.internal.Operate.{operation, Operands, cofactorOf, Cofactor, Quantified, quantifying, Recalls, Remembered, Stores, Keeping, Operating, quantifiedLevel, quantifiedEntry}
 use Rattle.nodes.specs.internal.Work.{Added, Has, Lacks, Store, store, roomOf, Ready, Keeps, After, Does, grew, filled, Stands, Maps}
 use Rattle.nodes.specs.internal.Quantify.{Funs, listed, results-of, Entry, Trebled, Quantifiable, MakeableThree, nodeFuns, RecalledThree, LacksThree, MakingThree, FinishingThree, Quantifying, anyOf}
 use Rattle.nodes.proofs.Funs.{shannon, from-put, from-fixed, part-fixed, part-refl}
@@ -262,10 +262,10 @@ module _ (t : Table) (v f : ℕ) (ok : Quantifiable t v f) where
   abbrev H : Funs
   H = results-of v (den t f)
 
-  asked-level : (quantifying v f - 255) % 128 ≡ v
+  asked-level : quantifiedLevel (quantifying v f) ≡ v
   asked-level = let a = ok .in-range in omega arith
 
-  asked-entry : (quantifying v f - 255) / 128 ≡ f
+  asked-entry : quantifiedEntry (quantifying v f) ≡ f
   asked-entry = let a = ok .in-range in omega arith
 
   pub quantify-recalled : (memo : List ℕ) → Remembered t memo → (r : Trio) → RecalledThree memo (quantifying v f) (held.At r) → Trebled t t H r

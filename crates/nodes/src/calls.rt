@@ -8,6 +8,7 @@ ghost use Rattle.nodes.specs.Formula.{_∧′_, _∨′_, ¬′_, fix, s
 ghost use Rattle.nodes.specs.internal.Lent.{holding, entering, leaving};
 ghost use Rattle.nodes.specs.internal.Work.{fixingOf, isDeeper, Ready, Applies, Joins, Maps, Chooses};
 use super::apply::operate;
+use super::limits::MAX_LENGTH;
 use super::quantify::any_of;
 use super::quantify::quantify;
 use super::room::Room;
@@ -126,7 +127,7 @@ fn is_deeper(v: u8, f: u32, packed: &[u32]) -> bool
 {
     let at = f as usize;
     if at < packed.len() {
-        return (v as u32) < packed[at] / 1048576;
+        return (v as u32) < packed[at] / MAX_LENGTH;
     }
     false
 }
