@@ -2,6 +2,7 @@
 
 // The most bits of a state code, and how many codes there are of as many bits.
 pub const MAX_BITS: u8 = 20;
+
 pub const CODES: u64 = 1 << MAX_BITS;
 
 // The largest level of a node: six levels for the action, and six for each bit of a code.

@@ -39,6 +39,7 @@ pub enum Held {
 
 // The first number of ∃, behind those of the operations, and how many there are for each entry: more than there are levels.
 const FIRST_NUMBER: u32 = 5 + 2 * (LAST_LEVEL as u32);
+
 const LEVELS_EACH: u32 = 128;
 
 // The number under which the memory has the results of ∃v f: no operation's.
