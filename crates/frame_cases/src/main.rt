@@ -1,5 +1,7 @@
 // Reads texts of every kind, good and bad, and prints what reading answers: "accepted" with the lines, and
-// the bits, leaf uses and states of the last line; or "refused" with the number and the line.
+// the bits, leaf uses and states of the last line; or "refused" with the number and the line. Then their lines, through the reader.
+mod lines;
+
 use frames::text::Verdict;
 use frames::text::read;
 use libc::STDOUT_FILENO;
@@ -252,4 +254,5 @@ fn main() {
     ninth();
     tenth();
     eleventh();
+    lines::all();
 }

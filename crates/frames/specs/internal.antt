@@ -1,0 +1,2 @@
+-- The vocabulary between functions of this crate. No definition of what a text says cites it.
+pub mod Cut
