@@ -1,8 +1,7 @@
 -- Single functions: each is listed as a whole. Assumes nothing.
-use mathlib.Core.Path.{_≡_}
-use mathlib.Core.Bool.{Bool, true, false, cond}
+use mathlib.Core.Bool.{Bool, true, false}
 use mathlib.Core.List.{[], _∷_}
-use Prim.Native.Nat.{ℕ, zero, suc, _+_, _*_, _≤_, _<_}
+use Prim.Native.Nat.{ℕ, zero, suc, _+_, _*_, _≤_}
 use lib.Dec.{eqb, ltb}
 use Rattle.nodes.specs.Fun.{Assignment, Fun, From, digit, never}
 use Rattle.nodes.specs.Table.{lastLevel, choice}
@@ -33,7 +32,7 @@ InLevels v k (suc w) n = (v + n ≤ lastLevel + 1) × InLevels (v + k) k w n
 pub record Spaced (v k w n : ℕ) : Type 0 where
   pub apart : n ≤ k
   pub near : k ≤ 6
-  pub first : v ≤ 131
+  pub first : v ≤ lastLevel + 6
   pub levels : InLevels v k w n
 
 -- F where level v is b, and false elsewhere
