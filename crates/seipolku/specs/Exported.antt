@@ -1,12 +1,11 @@
 -- What the exported functions answer: numbers for C, and the six words of an answer. Assumes nothing.
 use mathlib.Core.Path.{_≡_}
 use mathlib.Core.List.{List, [], _∷_}
-use Prim.Native.Nat.{ℕ, zero, suc, _≤_, _<_}
+use Prim.Native.Nat.{ℕ, _≤_, _<_}
 use lib.ListN.{length, set}
-use Rattle.nodes.specs.Lookup.{Slices}
+use Rattle.nodes.specs.Lookup.{Slices, numberOf as looked-number, valuesOf as looked-values}
 use Rattle.nodes.specs.declared.lookup.Looked.{Looked}
-use Rattle.nodes.specs.declared.lookup.Looked.the-variants.{Value, Turned}
-use Rattle.verdicts.specs.Contract.{Compared}
+use Rattle.verdicts.specs.Contract.{Values, valuesOf, Compared}
 use Rattle.verdicts.specs.declared.Answer.{Answer}
 use Rattle.verdicts.specs.declared.Answer.the-variants.{Equal, Different, Refused}
 
@@ -20,12 +19,18 @@ kindOf (Refused number side line) = 2
 abbrev pub six : List ℕ → ℕ → ℕ → ℕ → ℕ → ℕ → ℕ → List ℕ
 six words a b c d e f = set (set (set (set (set (set words 0 a) 1 b) 2 c) 3 d) 4 e) 5 f
 
--- the answer's words: equal: left root, right root, iterate root, rounds, nodes, 0; different: left root, right root, 0, rounds, nodes, 0;
--- refused: number, side, line, 0, 0, 0; those past the sixth stay
+-- the words of a verdict: left root, right root, iterate's root (0 for "different"), rounds, nodes, 0; and of a refusal: number, side, line, 0, 0, 0
+abbrev pub verdict-words : List ℕ → Values → List ℕ
+verdict-words words v = six words (v .left) (v .right) (v .iterate) (v .rounds) (v .nodes) 0
+
+abbrev pub refusal-words : List ℕ → Values → List ℕ
+refusal-words words v = six words (v .number) (v .side) (v .line) 0 0 0
+
+-- the answer's words, by document 01's number and values; those past the sixth stay
 abbrev pub answered : List ℕ → Answer → List ℕ
-answered words (Equal l r b rounds nodes) = six words l r b rounds nodes 0
-answered words (Different l r rounds nodes) = six words l r 0 rounds nodes 0
-answered words (Refused number side line) = six words number side line 0 0 0
+answered words (Equal l r b rounds nodes) = verdict-words words (valuesOf (Equal l r b rounds nodes))
+answered words (Different l r rounds nodes) = verdict-words words (valuesOf (Different l r rounds nodes))
+answered words (Refused number side line) = refusal-words words (valuesOf (Refused number side line))
 
 -- the slices lent for work
 pub record Work : Type 0 where
@@ -43,7 +48,10 @@ pub record Exported (l r : List ℕ) (mode limit : ℕ) (before after : Slices) 
   pub short : length words < 6 → (returned ≡ 3) × (after ≡ before) × (w′ ≡ w) × (words′ ≡ words)
   pub long : 6 ≤ length words → (a : Answer) × Compared l r mode limit before after a × (returned ≡ kindOf a) × (words′ ≡ answered words a)
 
--- a look-up's value, or the number of its refusal
+-- a look-up's value, or the number of its refusal where it has none
+abbrev pub first-of : List ℕ → ℕ → ℕ
+first-of [] other = other
+first-of (v ∷ vs) other = v
+
 abbrev pub numbered : Looked → ℕ
-numbered (Value v) = v
-numbered (Turned number) = number
+numbered l = first-of (looked-values l) (looked-number l)
