@@ -33,8 +33,8 @@ module _ (packed high : List ℕ) (used v lo hi i : ℕ) where
   node-there small two u e h = record {
     node = two;
     used = u;
-    level = level-at packed i ∙ ap (λ (p : ℕ). p / 1048576) e ∙ packed-level v lo small;
-    low = low-at packed i ∙ ap (λ (p : ℕ). p % 1048576) e ∙ packed-low v lo small;
+    level = level-at packed i ∙ ap (λ (p : ℕ). p / maxLength) e ∙ packed-level v lo small;
+    low = low-at packed i ∙ ap (λ (p : ℕ). p % maxLength) e ∙ packed-low v lo small;
     high = h;
   }
 
@@ -42,16 +42,16 @@ module _ (packed high : List ℕ) (used v lo hi i : ℕ) where
   node-word n = sym (packed-again (getD packed i 0)) ∙ ap₂ packing (sym (level-at packed i) ∙ n .level) (sym (low-at packed i) ∙ n .low)
 
 module _ (packed : List ℕ) (f v : ℕ) where
-  pub low-taken : getD packed f 0 / 1048576 ≡ v → getD packed f 0 % 1048576 ≡ cofactorOf (levels packed) (lows packed) f v
+  pub low-taken : getD packed f 0 / maxLength ≡ v → getD packed f 0 % maxLength ≡ cofactorOf (levels packed) (lows packed) f v
   low-taken e = sym (ap (λ (b : Bool). cond b (getD (lows packed) f 0) f) (eq-eqb _ _ (level-at packed f ∙ e)) ∙ low-at packed f)
 
-  pub high-taken : (high : List ℕ) → getD packed f 0 / 1048576 ≡ v → getD high f 0 ≡ cofactorOf (levels packed) high f v
+  pub high-taken : (high : List ℕ) → getD packed f 0 / maxLength ≡ v → getD high f 0 ≡ cofactorOf (levels packed) high f v
   high-taken high e = sym (ap (λ (b : Bool). cond b (getD high f 0) f) (eq-eqb _ _ (level-at packed f ∙ e)))
 
-  pub not-taken : (child : List ℕ) → (getD packed f 0 / 1048576 ≡ v → ⊥) → f ≡ cofactorOf (levels packed) child f v
+  pub not-taken : (child : List ℕ) → (getD packed f 0 / maxLength ≡ v → ⊥) → f ≡ cofactorOf (levels packed) child f v
   not-taken child n = sym (ap (λ (b : Bool). cond b (getD child f 0) f) (ne-eqb _ _ (λ e. n (sym (level-at packed f) ∙ e))))
 
-  pub deeper-inside : f < length packed → ltb v (getD packed f 0 / 1048576) ≡ isDeeper v f (levels packed)
+  pub deeper-inside : f < length packed → ltb v (getD packed f 0 / maxLength) ≡ isDeeper v f (levels packed)
   deeper-inside h = sym (ap₂ _&&_ (lt-ltb f (length (levels packed)) (subst (λ (n : ℕ). f < n) (sym (levels-length packed)) h)) (ap (ltb v) (level-at packed f)))
 
   pub deeper-outside : length packed ≤ f → false ≡ isDeeper v f (levels packed)

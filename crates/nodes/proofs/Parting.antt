@@ -5,6 +5,7 @@ use Prim.Native.Nat.{ℕ, zero, suc, _+_, _-_, _*_, _/_, _%_, _<_, _≤_, min}
 use native.Mathlib.Omega.{arith}
 use lib.ListN.{length, getD, set, take, drop, length-set, length-drop, length-map, List·getD-map}
 use lib.Seq.{length-take-le, take-set-le, take-set-lt, drop-set-lt, drop-set-add, getD-take, getD-drop, getD-set-other}
+use Rattle.nodes.specs.Table.{maxLength}
 use Rattle.nodes.specs.internal.Packed.{packing, levelIn, lowIn, levels, lows}
 use Rattle.nodes.specs.internal.Parts.{parted, covers, hashes, headsAt, memoryAt, linksIn, headsIn, memoIn}
 
@@ -15,10 +16,10 @@ map-set f [] i v = refl
 map-set f (x ∷ xs) zero v = refl
 map-set f (x ∷ xs) (suc i) v = ap (λ (t : List ℕ). f x ∷ t) (map-set f xs i v)
 
-pub packed-level : (v lo : ℕ) → lo < 1048576 → levelIn (packing v lo) ≡ v
+pub packed-level : (v lo : ℕ) → lo < maxLength → levelIn (packing v lo) ≡ v
 packed-level v lo h = omega arith
 
-pub packed-low : (v lo : ℕ) → lo < 1048576 → lowIn (packing v lo) ≡ lo
+pub packed-low : (v lo : ℕ) → lo < maxLength → lowIn (packing v lo) ≡ lo
 packed-low v lo h = omega arith
 
 pub packed-again : (p : ℕ) → packing (levelIn p) (lowIn p) ≡ p
@@ -41,11 +42,11 @@ module _ (packed : List ℕ) where
   unfolding lows
   low-at i = List·getD-map lowIn packed i 0
 
-  pub levels-set : (i v lo : ℕ) → lo < 1048576 → levels (set packed i (packing v lo)) ≡ set (levels packed) i v
+  pub levels-set : (i v lo : ℕ) → lo < maxLength → levels (set packed i (packing v lo)) ≡ set (levels packed) i v
   unfolding levels
   levels-set i v lo h = map-set levelIn packed i (packing v lo) ∙ ap (set (map levelIn packed) i) (packed-level v lo h)
 
-  pub lows-set : (i v lo : ℕ) → lo < 1048576 → lows (set packed i (packing v lo)) ≡ set (lows packed) i lo
+  pub lows-set : (i v lo : ℕ) → lo < maxLength → lows (set packed i (packing v lo)) ≡ set (lows packed) i lo
   unfolding lows
   lows-set i v lo h = map-set lowIn packed i (packing v lo) ∙ ap (set (map lowIn packed) i) (packed-low v lo h)
 

@@ -24,8 +24,8 @@ use Rattle.nodes.specs.internal.Packed.{levels, lows, packed-table}
 use Rattle.nodes.specs.internal.Parts.{headsIn, linksIn, memoIn}
 use Rattle.nodes.specs.internal.Index.{Indexed}
 use Rattle.nodes.specs.internal.Make.{Makeable, nodeFun, Making}
-use Rattle.nodes.specs.internal.Operate.{operation, Operands, cofactorOf, Cofactor, Quantified, quantifying, Recalls, Remembered, Stores, Keeping, Operating}
-use Rattle.nodes.specs.internal.Work.{Added, Has, Lacks, Store, store, roomOf, appliesTo, Ready, Keeps, After, Does, stayed, grew, filled, Stands, Maps}
+use Rattle.nodes.specs.internal.Operate.{operation, Operands, cofactorOf, Cofactor, Quantified, quantifying, Recalls, Remembered, Stores, Keeping, Operating, quantifiedLevel, quantifiedEntry}
+use Rattle.nodes.specs.internal.Work.{Added, Has, Lacks, Store, store, roomOf, Ready, Keeps, After, Does, grew, filled, Stands, Maps}
 use Rattle.nodes.specs.internal.Quantify.{Funs, listed, results-of, Entry, Trebled, Quantifiable, MakeableThree, nodeFuns, RecalledThree, LacksThree, MakingThree, FinishingThree, Quantifying, anyOf}
 use Rattle.nodes.proofs.Funs.{shannon, from-put, from-fixed, part-fixed, part-refl}
 use Rattle.nodes.proofs.Parting.{levels-length}
@@ -34,7 +34,7 @@ use Rattle.nodes.proofs.Making.{answered}
 use Rattle.nodes.proofs.Stepping.{level-above}
 use Rattle.nodes.proofs.Operating.{cofactor, operation-or, put-put, from-fixed-at}
 use Rattle.nodes.proofs.Memory.{recalls, remembered-extends, remembered-stores}
-use Rattle.nodes.proofs.Working.{Within, added-none, added-then, added-within, lacks-within, grows-built, lacks-short, contrary, does-then, after-none, is-full}
+use Rattle.nodes.proofs.Working.{Within, added-none, added-then, added-within, lacks-within, grows-built, lacks-short, contrary, does-then, used-one}
 
 -- ---- lists of three functions
 
@@ -262,10 +262,10 @@ module _ (t : Table) (v f : ℕ) (ok : Quantifiable t v f) where
   abbrev H : Funs
   H = results-of v (den t f)
 
-  asked-level : (quantifying v f - 255) % 128 ≡ v
+  asked-level : quantifiedLevel (quantifying v f) ≡ v
   asked-level = let a = ok .in-range in omega arith
 
-  asked-entry : (quantifying v f - 255) / 128 ≡ f
+  asked-entry : quantifiedEntry (quantifying v f) ≡ f
   asked-entry = let a = ok .in-range in omega arith
 
   pub quantify-recalled : (memo : List ℕ) → Remembered t memo → (r : Trio) → RecalledThree memo (quantifying v f) (held.At r) → Trebled t t H r
@@ -445,23 +445,19 @@ module _ (s : Store) (packed high work : List ℕ) (v : ℕ) where
       (filled e refl (subst (λ (n : ℕ). Lacks (s .table) (packed-table packed high n) (listed (results-of v F))) (levels-length packed) x), λ o. contrary refl o)
 
 -- the three functions are listed with ∃
-quantified-maps : {s s′ : Store} (v f i : ℕ) → After s s′
+quantified-maps : {s s′ : Store} (v f i : ℕ) → f < s .table .used → After s s′
     → ((F : Fun) → Stands s f F → Does s s′ (listed (results-of v F)) × Stands s′ i (exists v F)) → Maps s s′ (some v) f i
-quantified-maps v f i a x = record {
+quantified-maps v f i u a x = record {
   after = a;
   gives = λ {s₀} {φ} p. let (d, e) = x (value φ) (p .stands) in record { does = does-then (p .does) d; stands = e };
+  nothing = used-one u;
 }
 
-pub not-exists-maps : (packed high work : List ℕ) (room : Room) (v f : ℕ) → Ready (store packed high work room) → appliesTo room f f ≡ false
-    → Maps (store packed high work room) (store packed high work room) (some v) f (room .root)
-not-exists-maps packed high work room v f r e =
-    quantified-maps v f (room .root) (after-none r) (λ F x. let q = is-full packed high work room f f e x x in (stayed q refl, λ o. contrary q o))
-
-pub exists-maps : (s : Store) (packed high work : List ℕ) (v f : ℕ) → s .full ≡ false → Keeps s (store packed high work (roomOf made.Full 0)) → (r : Three)
+pub exists-maps : (s : Store) (packed high work : List ℕ) (v f : ℕ) → s .full ≡ false → f < s .table .used → Keeps s (store packed high work (roomOf made.Full 0)) → (r : Three)
     → Quantifying (s .table) packed high work v (den (s .table) f) r
     → Maps s (after s packed high work v r) (some v) f (roomOf (anyOf r) (length packed) .root)
-exists-maps s packed high work v f e k r x =
-    quantified-maps v f (roomOf (anyOf r) (length packed) .root)
+exists-maps s packed high work v f e u k r x =
+    quantified-maps v f (roomOf (anyOf r) (length packed) .root) u
     (record {
       ready = quantified-ready s packed high work v (den (s .table) f) r x;
       kept = record { packed = k .packed; high = k .high; work = k .work };

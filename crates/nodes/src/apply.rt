@@ -6,12 +6,13 @@ ghost use lib.ListN.{length, getD};
 ghost use Rattle.nodes.specs.Fun.{both, either, negated};
 ghost use Rattle.nodes.specs.internal.Packed.{levels, lows};
 ghost use Rattle.nodes.specs.internal.Operate.{operation, turnsOf, lastOperation, Operands, SettlesBy, Settles, cofactorOf, Splits, Finishing, Helping, Operating};
-ghost use Rattle.nodes.specs.Table.{den};
+ghost use Rattle.nodes.specs.Table.{constantLevel, den};
 ghost use Rattle.nodes.specs.internal.Index.{Indexing};
 ghost use Rattle.nodes.specs.internal.Make.{Makeable, nodeFun};
 ghost use Rattle.nodes.specs.internal.Lent.{table-of, table-in};
 use super::computed::recall;
 use super::computed::remember;
+use super::limits::MAX_LENGTH;
 use super::unique::Found;
 use super::unique::Made;
 use super::unique::make;
@@ -81,7 +82,7 @@ fn settle_fix(packed: &[u32], high: &[u32], used: u32, op: u32, f: u32, g: u32) 
     let k = op - 3;
     let v = k / 2;
     let word = packed[at];
-    let l = word / 1048576;
+    let l = word / MAX_LENGTH;
     if l < v {
         return Settled::Open;
     }
@@ -92,7 +93,7 @@ fn settle_fix(packed: &[u32], high: &[u32], used: u32, op: u32, f: u32, g: u32) 
     if b == 1 {
         return Settled::Is(high[at]);
     }
-    Settled::Is(word % 1048576)
+    Settled::Is(word % MAX_LENGTH)
 }
 
 // The answer where it is an entry at hand.
@@ -126,10 +127,10 @@ pub(crate) fn larger(a: u8, b: u8) -> u8
 
 // The level of an entry.
 pub(crate) fn level_of(packed: &[u32], f: u32) -> u8
-    requires { ⌜ (f < length (now packed)) × (getD (levels (now packed)) f 0 ≤ 255) ⌝ }
+    requires { ⌜ (f < length (now packed)) × (getD (levels (now packed)) f 0 ≤ constantLevel) ⌝ }
     ensures { λ r. ⌜ r ≡ getD (levels (now (packed .entry))) f 0 ⌝ }
 {
-    (packed[f as usize] / 1048576) as u8
+    (packed[f as usize] / MAX_LENGTH) as u8
 }
 
 // The entry of f with level v, at most f's own, fixed to false.
@@ -138,8 +139,8 @@ pub(crate) fn low_cofactor(packed: &[u32], f: u32, v: u8) -> u32
     ensures { λ r. ⌜ r ≡ cofactorOf (levels (now (packed .entry))) (lows (now (packed .entry))) f v ⌝ }
 {
     let word = packed[f as usize];
-    if word / 1048576 == v as u32 {
-        word % 1048576
+    if word / MAX_LENGTH == v as u32 {
+        word % MAX_LENGTH
     } else {
         f
     }
@@ -152,7 +153,7 @@ pub(crate) fn high_cofactor(packed: &[u32], high: &[u32], f: u32, v: u8) -> u32
 {
     let at = f as usize;
     let word = packed[at];
-    if word / 1048576 == v as u32 {
+    if word / MAX_LENGTH == v as u32 {
         high[at]
     } else {
         f

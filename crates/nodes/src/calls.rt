@@ -8,14 +8,16 @@ ghost use Rattle.nodes.specs.Formula.{_∧′_, _∨′_, ¬′_, fix, s
 ghost use Rattle.nodes.specs.internal.Lent.{holding, entering, leaving};
 ghost use Rattle.nodes.specs.internal.Work.{fixingOf, isDeeper, Ready, Applies, Joins, Maps, Chooses};
 use super::apply::operate;
+use super::limits::MAX_LENGTH;
 use super::quantify::any_of;
 use super::quantify::quantify;
 use super::room::Room;
 use super::room::can_apply;
 use super::room::room_after;
+use super::room::with_root;
 use super::unique::make;
 
-// The operation of a number; nothing is done where it cannot be made.
+// The operation of a number. Where it cannot be made, nothing is done, and the root is f.
 fn apply(
     op: u32,
     f: u32,
@@ -30,7 +32,7 @@ fn apply(
     ensures { λ r. ⌜ Applies (entering packed high work room) (leaving packed high work r) op f g (r .root) ⌝ }
 {
     if !can_apply(room, f, g) {
-        return room;
+        return with_root(room, f);
     }
     let m = operate(packed, high, work, room.used, op, f, g);
     room_after(m, packed.len())
@@ -113,7 +115,7 @@ pub fn exists(
     ensures { λ r. ⌜ Maps (entering packed high work room) (leaving packed high work r) (some v) f (r .root) ⌝ }
 {
     if !can_apply(room, f, f) {
-        return room;
+        return with_root(room, f);
     }
     let r = quantify(packed, high, work, room.used, v, f);
     room_after(any_of(r), packed.len())
@@ -125,7 +127,7 @@ fn is_deeper(v: u8, f: u32, packed: &[u32]) -> bool
 {
     let at = f as usize;
     if at < packed.len() {
-        return (v as u32) < packed[at] / 1048576;
+        return (v as u32) < packed[at] / MAX_LENGTH;
     }
     false
 }

@@ -10,6 +10,7 @@ use super::calls::and;
 use super::calls::exists;
 use super::calls::fix;
 use super::room::Room;
+use super::room::can_apply;
 use super::room::with_root;
 use super::single::same;
 
@@ -27,6 +28,9 @@ pub fn rename(
     requires { ⌜ (v ≤ lastLevel) × (w ≤ lastLevel) × (v ≡ w → ⊥) ⌝ }
     ensures { λ r. ⌜ Maps (entering packed high work room) (leaving packed high work r) (renamed v w) f (r .root) ⌝ }
 {
+    if !can_apply(room, f, f) {
+        return with_root(room, f);
+    }
     let e = same(v, w, room, packed, high, work);
     let g = and(e.root, f, e, packed, high, work);
     exists(g.root, v, g, packed, high, work)

@@ -5,6 +5,7 @@ pub mod apply;
 pub mod calls;
 pub mod computed;
 pub mod levels;
+pub mod limits;
 pub mod lookup;
 pub mod quantify;
 pub mod room;

@@ -5,6 +5,9 @@ ghost use lib.ListN.{length};
 ghost use Rattle.nodes.specs.Table.{lastLevel};
 ghost use Rattle.nodes.specs.Lookup.{slices, table-fits, small, looked-up, walk-from, look-up};
 use super::levels::digit_at;
+use super::limits::CODES;
+use super::limits::LAST_LEVEL;
+use super::limits::MAX_LENGTH;
 
 // What a look-up answers: the value at the end of its walk, or a refusal.
 pub enum Looked {
@@ -12,7 +15,7 @@ pub enum Looked {
     Turned(u8),
 }
 
-// The slices of a table are of one length, from 2 to 1,048,576.
+// The slices of a table are of one length, from 2 to the longest.
 pub fn slices_fit(level: &[u8], low: &[u32], high: &[u32]) -> bool
     ensures { λ r. ⌜ r ≡ table-fits (slices (now (level .entry)) (now (low .entry)) (now (high .entry))) ⌝ }
 {
@@ -25,26 +28,26 @@ pub fn slices_fit(level: &[u8], low: &[u32], high: &[u32]) -> bool
     if level.len() < 2 {
         return false;
     }
-    level.len() <= 1048576
+    level.len() <= MAX_LENGTH as usize
 }
 
-// An action of 6 bits, and state codes of 20.
+// An action of 6 bits, and state codes of at most MAX_BITS.
 fn values_fit(action: u64, x: u64, x1: u64, y: u64, y1: u64) -> bool
     ensures { λ r. ⌜ r ≡ small action x x1 y y1 ⌝ }
 {
     if 63 < action {
         return false;
     }
-    if 1048576 <= x {
+    if CODES <= x {
         return false;
     }
-    if 1048576 <= x1 {
+    if CODES <= x1 {
         return false;
     }
-    if 1048576 <= y {
+    if CODES <= y {
         return false;
     }
-    y1 < 1048576
+    y1 < CODES
 }
 
 // The bit of a look-up at level v: the action's, or that of the code in the level's slot. Middle bits are 0.
@@ -88,7 +91,7 @@ fn walk(
 {
     let mut i = root as usize;
     let mut from: u8 = 0;
-    let mut n: u8 = 127;
+    let mut n: u8 = LAST_LEVEL + 2;
     while 0 < n {
         if i == 0 {
             return Looked::Value(0);
@@ -103,7 +106,7 @@ fn walk(
         if v < from {
             return Looked::Turned(10);
         }
-        if 125 < v {
+        if LAST_LEVEL < v {
             return Looked::Turned(10);
         }
         let up = bit_at(v, action, x, x1, y, y1);

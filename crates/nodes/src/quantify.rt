@@ -12,6 +12,7 @@ use super::apply::level_of;
 use super::apply::low_cofactor;
 use super::apply::operate;
 use super::computed::write_slot;
+use super::limits::LAST_LEVEL;
 use super::unique::Made;
 use super::unique::make;
 use super::work::hash;
@@ -36,12 +37,16 @@ pub enum Held {
     Nothing,
 }
 
+// The first number of ∃, behind those of the operations, and how many there are for each entry: more than there are levels.
+const FIRST_NUMBER: u32 = 5 + 2 * (LAST_LEVEL as u32);
+const LEVELS_EACH: u32 = 128;
+
 // The number under which the memory has the results of ∃v f: no operation's.
 fn number_of(v: u8, f: u32) -> u32
     requires { ⌜ (v ≤ lastLevel) × (f < maxLength) ⌝ }
     ensures { λ r. ⌜ (r ≡ quantifying v f) × (r ≤ lastNumber) ⌝ }
 {
-    255 + (v as u32) + f * 128
+    FIRST_NUMBER + (v as u32) + f * LEVELS_EACH
 }
 
 // The results of ∃v f, where the memory has them.

@@ -6,6 +6,8 @@ ghost use Rattle.nodes.specs.internal.Lent.{table-in, leaving};
 ghost use Rattle.nodes.specs.internal.Packed.{packed-table};
 ghost use Rattle.nodes.specs.internal.Start.{Clear, Fits, Starts, Unpackable, Unpacked};
 ghost use Rattle.nodes.specs.Table.{WellFormed};
+use super::limits::CONSTANT_LEVEL;
+use super::limits::MAX_LENGTH;
 use super::room::Room;
 
 // Sets every number of s to 0.
@@ -19,13 +21,16 @@ fn clear(s: &mut [u32])
     }
 }
 
-// Writes the constants to the first two entries: level 255, and each its own child.
+// The word of entry 0: the level of the constants, and itself for its child.
+const CONSTANT_WORD: u32 = (CONSTANT_LEVEL as u32) * MAX_LENGTH;
+
+// Writes the constants to the first two entries: each is its own child.
 fn constants(packed: &mut [u32], high: &mut [u32])
     requires { ⌜ Fits (now packed) (now high) ⌝ }
     ensures { λ _. ⌜ WellFormed (packed-table (now (packed .exit)) (now (high .exit)) 2) ⌝ }
 {
-    packed[0] = 267386880;
-    packed[1] = 267386881;
+    packed[0] = CONSTANT_WORD;
+    packed[1] = CONSTANT_WORD + 1;
     high[0] = 0;
     high[1] = 1;
 }
@@ -62,8 +67,8 @@ pub fn unpack(level: &mut [u8], low: &mut [u32], high: &[u32], room: Room)
     while i < used {
         let at = i as usize;
         let word = low[at];
-        level[at] = (word / 1048576) as u8;
-        low[at] = word % 1048576;
+        level[at] = (word / MAX_LENGTH) as u8;
+        low[at] = word % MAX_LENGTH;
         i += 1;
     }
 }

@@ -5,6 +5,7 @@ ghost use Rattle.nodes.specs.Table.{maxLength, WellFormed};
 ghost use Rattle.nodes.specs.internal.Index.{coverage, Indexing, Linking};
 ghost use Rattle.nodes.specs.internal.Make.{Makeable, FindsFrom, FindsBelow, Finds, Making, nodeFun};
 ghost use Rattle.nodes.specs.internal.Lent.{table-of, table-in};
+use super::limits::MAX_LENGTH;
 use super::work::covered;
 use super::work::covers;
 use super::work::hash;
@@ -35,7 +36,7 @@ fn find_from(packed: &[u32], high: &[u32], used: u32, from: usize, v: u8, lo: u3
     if 2 < from {
         i = from as u32;
     }
-    let word = (v as u32) * 1048576 + lo;
+    let word = (v as u32) * MAX_LENGTH + lo;
     while i < used {
         let at = i as usize;
         if packed[at] == word {
@@ -67,7 +68,7 @@ fn find_chained(
     if n == 0 {
         return Found::Nothing;
     }
-    let word = (v as u32) * 1048576 + lo;
+    let word = (v as u32) * MAX_LENGTH + lo;
     let h = hash(v as u32, lo, hi, n);
     let mut i = work[1 + covers(work) + h];
     while 2 <= i {
@@ -131,7 +132,7 @@ pub fn make(
         Found::Nothing => {
             let at = used as usize;
             if at < packed.len() {
-                packed[at] = (v as u32) * 1048576 + lo;
+                packed[at] = (v as u32) * MAX_LENGTH + lo;
                 high[at] = hi;
                 link(work, used, v, lo, hi);
                 Made::At(used, used + 1)

@@ -14,7 +14,7 @@ use Rattle.nodes.specs.declared.apply.Settled.{Settled}
 use Rattle.nodes.specs.declared.apply.Settled.the-variants as settled
 use Rattle.nodes.specs.declared.apply.Split.{Split}
 use Rattle.nodes.specs.Fun.{Fun, both, either, negated, fixed, exists}
-use Rattle.nodes.specs.Table.{Table, table, levelOf, den, WellFormed}
+use Rattle.nodes.specs.Table.{Table, table, lastLevel, maxLength, levelOf, den, WellFormed}
 use Rattle.nodes.specs.internal.Growth.{Built, Short}
 use Rattle.nodes.specs.internal.Packed.{levels, lows}
 use Rattle.nodes.specs.internal.Parts.{memoryAt, linksIn, headsIn, memoIn}
@@ -34,7 +34,7 @@ turnsOf o f g = ltb o 2 && ltb g f
 
 -- the last one fixes the last level to 1
 abbrev pub lastOperation : ℕ
-lastOperation = 254
+lastOperation = 4 + 2 * lastLevel
 
 pub record Operands (t : Table) (o f g : ℕ) : Type 0 where
   pub formed : WellFormed t
@@ -75,13 +75,23 @@ pub record Splits (t : Table) (f g : ℕ) (s : Split) : Type 0 where
 -- A memory of results: a list of any length, in slots of four numbers, the first of which is 0 in an empty slot. A slot of an operation has its
 -- number plus 1, the operands and the result. A slot of ∃v f has `quantifying v f` plus 1, and the three results.
 
--- the number of ∃v f
+-- the numbers of ∃ come behind those of the operations, so many for each entry: more than there are levels
+abbrev pub levelsEach : ℕ
+levelsEach = 128
+
+-- the number of ∃v f, and the level and the entry of a number
 abbrev pub quantifying : ℕ → ℕ → ℕ
-quantifying v f = 255 + v + f * 128
+quantifying v f = lastOperation + 1 + v + f * levelsEach
+
+abbrev pub quantifiedLevel : ℕ → ℕ
+quantifiedLevel o = (o - (lastOperation + 1)) % levelsEach
+
+abbrev pub quantifiedEntry : ℕ → ℕ
+quantifiedEntry o = (o - (lastOperation + 1)) / levelsEach
 
 -- the largest number that there may be
 abbrev pub lastNumber : ℕ
-lastNumber = 134217982
+lastNumber = lastOperation + maxLength * levelsEach
 
 -- the entries z, w and r stand for what f stands for with level v fixed to false, fixed to true, and for ∃v of it
 pub record Quantified (t : Table) (v f z w r : ℕ) : Type 0 where
@@ -96,7 +106,7 @@ pub record Recalls (t : Table) (o f g r : ℕ) : Type 0 where
   pub right : g < t .used
   pub found : r < t .used
   pub stands : o ≤ lastOperation → den t r ≡ operation o (den t f) (den t g)
-  pub quantified : lastOperation < o → Quantified t ((o - 255) % 128) ((o - 255) / 128) f g r
+  pub quantified : lastOperation < o → Quantified t (quantifiedLevel o) (quantifiedEntry o) f g r
 
 abbrev pub Remembered : Table → List ℕ → Type 0
 Remembered t memo = (s : ℕ) → 4 * s + 3 < length memo → (o : ℕ) → getD memo (4 * s) 0 ≡ o + 1

@@ -1,17 +1,17 @@
 -- A table as the calls hold it, in two lists: an entry's level and its low child in one number, and its high child. Assumes nothing.
 use mathlib.Core.List.{List, map}
 use Prim.Native.Nat.{ℕ, _/_, _%_, _+_, _*_}
-use Rattle.nodes.specs.Table.{Table, table}
+use Rattle.nodes.specs.Table.{Table, table, maxLength}
 
--- a level and a low child in one number; a child is below 1048576, the length of the longest table
+-- a level and a low child in one number: a child is below the length of the longest table
 abbrev pub packing : ℕ → ℕ → ℕ
-packing v lo = v * 1048576 + lo
+packing v lo = v * maxLength + lo
 
 abbrev pub levelIn : ℕ → ℕ
-levelIn p = p / 1048576
+levelIn p = p / maxLength
 
 abbrev pub lowIn : ℕ → ℕ
-lowIn p = p % 1048576
+lowIn p = p % maxLength
 
 unfoldable pub levels : List ℕ → List ℕ
 levels packed = map levelIn packed

@@ -33,7 +33,7 @@ InLevels v k (suc w) n = (v + n ≤ lastLevel + 1) × InLevels (v + k) k w n
 pub record Spaced (v k w n : ℕ) : Type 0 where
   pub apart : n ≤ k
   pub near : k ≤ 6
-  pub first : v ≤ 131
+  pub first : v ≤ lastLevel + 6
   pub levels : InLevels v k w n
 
 -- F where level v is b, and false elsewhere

@@ -1,5 +1,6 @@
 -- Calls one after the other on one table: the list of functions that they worked out, and where the table was too short. Assumes nothing.
 use mathlib.Core.Path.{_≡_}
+use mathlib.Core.Logic.{_⊎_}
 use mathlib.Core.Bool.{Bool, true, false, not, _&&_}
 use mathlib.Core.List.{List, [], _∷_, List·Memᴰ}
 use Prim.Native.Nat.{ℕ, _+_, _*_, _≤_, _<_}
@@ -111,15 +112,22 @@ pub record Lists (s s′ : Store) (f : Fun) (i : ℕ) : Type 0 where
   pub gives : Gives s s′ ⟪ f ⟫ i
 
 -- its operand f has been worked out as φ, since any store s₀: it goes on to C φ
-pub record Maps (s s′ : Store) (C : Formula → Formula) (f i : ℕ) : Type 0 where
+pub record Continues (s s′ : Store) (C : Formula → Formula) (f i : ℕ) : Type 0 where
   pub after : After s s′
   pub gives : {s₀ : Store} {φ : Formula} → Gives s₀ s φ f → Gives s₀ s′ (C φ) i
 
--- the same of two operands, in whichever order they were worked out
+-- the same; where f is no entry in use, it does nothing, and answers f
+pub record Maps (s s′ : Store) (C : Formula → Formula) (f i : ℕ) : Type 0 where
+  pub after : After s s′
+  pub gives : {s₀ : Store} {φ : Formula} → Gives s₀ s φ f → Gives s₀ s′ (C φ) i
+  pub nothing : s .table .used ≤ f → (s′ ≡ s) × (i ≡ f)
+
+-- the same of two operands, in whichever order they were worked out; where one is no entry in use, it does nothing, and answers f
 pub record Joins (s s′ : Store) (C : Formula → Formula → Formula) (f g i : ℕ) : Type 0 where
   pub after : After s s′
   pub gives : {s₀ s₁ : Store} {φ ψ : Formula} → Gives s₀ s₁ φ f → Gives s₁ s ψ g → Gives s₀ s′ (C φ ψ) i
   pub turned : {s₀ s₁ : Store} {φ ψ : Formula} → Gives s₀ s₁ ψ g → Gives s₁ s φ f → Gives s₀ s′ (C φ ψ) i
+  pub nothing : (s .table .used ≤ f) ⊎ (s .table .used ≤ g) → (s′ ≡ s) × (i ≡ f)
 
 -- its operands stand for F and G: it works out a formula over them
 pub record Uses₁ (s s′ : Store) (C : Fun → Formula) (f i : ℕ) : Type 0 where
@@ -130,17 +138,21 @@ pub record Uses₂ (s s′ : Store) (C : Fun → Fun → Formula) (f g i : ℕ) 
   pub after : After s s′
   pub gives : (F G : Fun) → Stands s f F → Stands s g G → Gives s s′ (C F G) i
 
--- the operation of a number on the entries f and g, listed by its result
+-- the operation of a number on the entries f and g, listed by its result; where one is no entry in use, nothing is done, and the answer is f
 pub record Applies (s s′ : Store) (o f g i : ℕ) : Type 0 where
   pub after : After s s′
   pub adds : (F G : Fun) → Stands s f F → Stands s g G → Does s s′ (operation o F G ∷ []) × Stands s′ i (operation o F G)
+  pub nothing : (s .table .used ≤ f) ⊎ (s .table .used ≤ g) → (s′ ≡ s) × (i ≡ f)
 
 -- the entry is there, and its level is above v
 abbrev pub isDeeper : ℕ → ℕ → List ℕ → Bool
 isDeeper v f level = ltb f (length level) && ltb v (getD level f 0)
 
--- the node of level v over the entries lo and hi, which read only levels above v
+-- The node of level v over the entries lo and hi, which read only levels above v. Nothing is done where one is no entry in use, or where the
+-- level of one is not above v.
 pub record Chooses (s s′ : Store) (v lo hi i : ℕ) : Type 0 where
   pub after : After s s′
   pub adds : (F G : Fun) → Stands s lo F → Stands s hi G → From (v + 1) F → From (v + 1) G
       → Does s s′ (choice v G F ∷ []) × Stands s′ i (choice v G F)
+  pub nothing : (s .table .used ≤ lo) ⊎ (s .table .used ≤ hi) → s′ ≡ s
+  pub not-above : (isDeeper v lo (s .table .level) && isDeeper v hi (s .table .level)) ≡ false → s′ ≡ s

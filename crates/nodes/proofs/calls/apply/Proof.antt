@@ -1,23 +1,27 @@
 -- `nodes::apply` meets its contract. Assumes nothing.
 use borrow.Author.Needs.{needs}
-use mathlib.Core.Path.{sym, _∙_, ap₂, subst}
+use mathlib.Core.Path.{refl, sym, _∙_, ap₂, subst}
 use native.Mathlib.Omega.{arith}
 use borrow.Author.Tests.{not-true, not-false}
 use Rattle.nodes.specs.declared.room.Room.{Room}
 use Rattle.nodes.specs.internal.Operate.{operation}
 use Rattle.nodes.specs.internal.Work.{store, Applies}
 use Rattle.nodes.proofs.Parting.{levels-length}
-use Rattle.nodes.proofs.Working.{after-none, not-operated, to-operate, operated, operated-ready}
+use Rattle.nodes.proofs.Working.{after-none, not-operated, to-operate, used-two, operated, operated-ready}
 use Rattle.nodes.proofs.calls.apply.Statement.{statement}
 use Rattle.nodes.proofs.calls.apply.Tie as tie
 
 returns : tie.Need-returns
 returns c =
-    let a = c .before .before .before .before .before .args in
-    record {
-      after = after-none (c .before .before .before .before .before .pre .0);
-      adds = λ F G x y. not-operated (a .packed .now) (a .high .now) (a .work .now) (a .room) (a .f) (a .g) (sym (c .before .can-apply .ensures) ∙ not-true _ (c .if1 .taken)) x y;
-    }
+    let c2 = c .before .before in
+    let c0 = c2 .before .before .before .before in
+    let a = c0 .args in
+    subst (λ (r : Room). Applies (store (a .packed .now) (a .high .now) (a .work .now) (a .room)) (store (a .packed .now) (a .high .now) (a .work .now) r) (a .op) (a .f) (a .g) (r .root)) (sym (c .with-root .ensures))
+    (record {
+      after = after-none (c0 .pre .0);
+      adds = λ F G x y. not-operated (a .packed .now) (a .high .now) (a .work .now) (a .room) (a .f) (a .g) (sym (c2 .can-apply .ensures) ∙ not-true _ (c .before .if1 .taken)) (a .f) x y;
+      nothing = λ _. (refl, refl);
+    })
 
 operate-requires : tie.Need-operate-requires
 operate-requires c κs =
@@ -53,12 +57,14 @@ returns-2 c =
       };
       adds = λ F G y z. operated s packed high work (x .0) (c .before .before .before .before .before .before .before .before .before .before .before .before .before .before .before .before .pre .0 .formed (x .0)) (o .result)
           (ap₂ (operation (a .op)) (y (x .0) .1) (z (x .0) .1)) (o .ensures);
+      nothing = used-two (x .1) (x .2);
     })
 
 pub apply-spec : {M : Type 1} → statement M
 apply-spec =
     tie.close
     (tie.spec
+    (λ c κs. search needs)
     (λ c κs. search needs)
     returns
     operate-requires

@@ -1,6 +1,7 @@
 -- `nodes::exists` meets its contract, by that of `quantify`. Assumes nothing.
 use borrow.Author.Needs.{needs}
 use mathlib.Core.Path.{sym, _∙_, ap, subst}
+use mathlib.Core.List.{Memᴰ·append-left}
 use native.Mathlib.Omega.{arith}
 use lib.ListN.{length}
 use borrow.Author.Tests.{not-true, not-false}
@@ -9,18 +10,18 @@ use Rattle.nodes.specs.declared.unique.Made.{Made}
 use Rattle.nodes.specs.Formula.{some}
 use Rattle.nodes.specs.internal.Work.{store, roomOf, Maps}
 use Rattle.nodes.proofs.Parting.{levels-length}
-use Rattle.nodes.proofs.Working.{to-operate}
-use Rattle.nodes.proofs.Quantifying.{exists-maps, not-exists-maps}
+use Rattle.nodes.proofs.Working.{to-operate, not-mapped}
+use Rattle.nodes.proofs.Quantifying.{exists-maps}
 use Rattle.nodes.proofs.calls.exists.Statement.{statement}
 use Rattle.nodes.proofs.calls.exists.Tie as tie
 
 returns : tie.Need-returns
 returns c =
-    let c2 = c .before in
+    let c2 = c .before .before in
     let c0 = c2 .before .before .before .before in
     let a = c0 .args in
-    let pre = c0 .pre in
-    not-exists-maps (a .packed .now) (a .high .now) (a .work .now) (a .room) (a .v) (a .f) (pre .0) (sym (c2 .can-apply .ensures) ∙ not-true _ (c .if1 .taken))
+    subst (λ (r : Room). Maps (store (a .packed .now) (a .high .now) (a .work .now) (a .room)) (store (a .packed .now) (a .high .now) (a .work .now) r) (some (a .v)) (a .f) (r .root)) (sym (c .with-root .ensures))
+    (not-mapped (a .packed .now) (a .high .now) (a .work .now) (a .room) (a .f) (some (a .v)) (λ φ f m. Memᴰ·append-left _ m) (c0 .pre .0) (sym (c2 .can-apply .ensures) ∙ not-true _ (c .before .if1 .taken)))
 
 quantify-requires : tie.Need-quantify-requires
 quantify-requires c κs =
@@ -60,12 +61,13 @@ returns-2 c =
     let work = q .last .1 .1 .0 in
     subst (λ (r : Room). Maps s (store packed high work r) (some (a .v)) (a .f) (r .root))
     (sym (c .room-after .ensures ∙ ap (λ (m : Made). roomOf m (length packed)) (c5 .any-of .ensures)))
-    (exists-maps s packed high work (a .v) (a .f) (x .0) (record { packed = q .kept .0; high = q .kept .1 .0; work = q .kept .1 .1 .0 }) (q .result) (q .ensures))
+    (exists-maps s packed high work (a .v) (a .f) (x .0) (x .1) (record { packed = q .kept .0; high = q .kept .1 .0; work = q .kept .1 .1 .0 }) (q .result) (q .ensures))
 
 pub exists-spec : {M : Type 1} → statement M
 exists-spec =
     tie.close
     (tie.spec
+    (λ c κs. search needs)
     (λ c κs. search needs)
     returns
     quantify-requires

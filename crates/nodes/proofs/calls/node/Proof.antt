@@ -9,7 +9,7 @@ use Rattle.nodes.specs.Table.{choice}
 use Rattle.nodes.specs.internal.Make.{Makeable}
 use Rattle.nodes.specs.internal.Work.{store, Chooses}
 use Rattle.nodes.proofs.Parting.{levels-length}
-use Rattle.nodes.proofs.Working.{after-none, not-operated, to-operate}
+use Rattle.nodes.proofs.Working.{contrary, and-true, after-none, not-operated, to-operate, used-two}
 use Rattle.nodes.proofs.Choosing.{is-deeper, not-chosen, chosen, chosen-ready}
 use Rattle.nodes.proofs.calls.node.Statement.{statement}
 use Rattle.nodes.proofs.calls.node.Tie as tie
@@ -21,7 +21,9 @@ returns c =
     let a = c0 .args in
     record {
       after = after-none (c0 .pre .0);
-      adds = λ F G x y _ _. not-operated (a .packed .now) (a .high .now) (a .work .now) (a .room) (a .lo) (a .hi) (sym (c2 .can-apply .ensures) ∙ not-true _ (c .if1 .taken)) x y;
+      adds = λ F G x y _ _. not-operated (a .packed .now) (a .high .now) (a .work .now) (a .room) (a .lo) (a .hi) (sym (c2 .can-apply .ensures) ∙ not-true _ (c .if1 .taken)) (a .room .root) x y;
+      nothing = λ _. refl;
+      not-above = λ _. refl;
     }
 
 returns-2 : tie.Need-returns-2
@@ -32,6 +34,8 @@ returns-2 c =
     record {
       after = after-none (c0 .pre .0);
       adds = λ F G x y p q. not-chosen (a .packed .now) (a .high .now) (a .work .now) (a .room) (a .v) (a .lo) (c0 .pre .1) (c0 .pre .0) (sym (c2 .is-deeper .ensures) ∙ not-true _ (c .if2 .taken)) x p;
+      nothing = λ _. refl;
+      not-above = λ _. refl;
     }
 
 returns-3 : tie.Need-returns-3
@@ -42,6 +46,8 @@ returns-3 c =
     record {
       after = after-none (c0 .pre .0);
       adds = λ F G x y p q. not-chosen (a .packed .now) (a .high .now) (a .work .now) (a .room) (a .v) (a .hi) (c0 .pre .1) (c0 .pre .0) (sym (c2 .is-deeper2 .ensures) ∙ not-true _ (c .if3 .taken)) y q;
+      nothing = λ _. refl;
+      not-above = λ _. refl;
     }
 
 make-requires : tie.Need-make-requires
@@ -101,6 +107,8 @@ returns-4 c =
       };
       adds = λ F G y z _ _. chosen s (a .v) (a .lo) (a .hi) ok packed high work (x .0) (o .result)
           (ap₂ (λ (g f : Fun). choice (a .v) g f) (z (x .0) .1) (y (x .0) .1)) (o .ensures);
+      nothing = used-two (x .1) (x .2);
+      not-above = λ e. contrary (and-true (sym (c4 .is-deeper .ensures) ∙ not-false _ (c5 .if2 .left)) (sym (c6 .is-deeper2 .ensures) ∙ not-false _ (c7 .if3 .left))) e;
     })
 
 pub node-spec : {M : Type 1} → statement M

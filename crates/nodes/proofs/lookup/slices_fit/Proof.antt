@@ -1,4 +1,5 @@
 -- `nodes::lookup::slices_fit` meets its contract: by the tests. Assumes nothing.
+use borrow.Author.Needs.{needs}
 use borrow.Author.Tests.{eq-eqb, ne-eqb, le-leb, lt-leb}
 use Rattle.nodes.specs.Lookup.{table-fits}
 use Rattle.nodes.proofs.lookup.slices_fit.Statement.{statement}
@@ -21,4 +22,4 @@ unfolding table-fits
 returns-4 c = simp (eq-eqb _ _ (c .before .before .if1 .left), eq-eqb _ _ (c .before .if2 .left), le-leb _ _ (c .if3 .left))
 
 pub slices-fit-spec : {M : Type 1} → statement M
-slices-fit-spec = tie.close (tie.spec returns returns-2 returns-3 returns-4)
+slices-fit-spec = tie.close (tie.spec returns returns-2 returns-3 (λ c. search needs) returns-4)

@@ -3,6 +3,8 @@ use mathlib.Core.Path.{_≡_, refl, sym, _∙_}
 use mathlib.Core.Logic.{⊎-elim}
 use native.Mathlib.Omega.{arith}
 use borrow.Author.Needs.{needs}
+use Prim.Native.Nat.{_+_}
+use Rattle.nodes.specs.Table.{lastLevel}
 use Rattle.nodes.specs.Lookup.{looked-up, slices, walk-from}
 use Rattle.nodes.proofs.Walking.{walk-none, walk-0, walk-1, walk-outside, walk-low, walk-high, walk-up, walk-down}
 use Rattle.nodes.proofs.lookup.walk.Statement.{statement}
@@ -10,7 +12,7 @@ use Rattle.nodes.proofs.lookup.walk.Tie as tie
 
 abbrev Inv-loop : tie.InvT-loop
 Inv-loop level low high root action x x1 y y1 i₀ from₀ n₀ i from n =
-    walk-from n (slices level low high) (looked-up action x x1 y y1) from i ≡ walk-from 127 (slices level low high) (looked-up action x x1 y y1) 0 root
+    walk-from n (slices level low high) (looked-up action x x1 y y1) from i ≡ walk-from (lastLevel + 2) (slices level low high) (looked-up action x x1 y y1) 0 root
 
 abbrev μ-loop : tie.MeasureT-loop
 μ-loop level low high root action x x1 y y1 i₀ from₀ n₀ i from n = n
@@ -80,6 +82,7 @@ walk-spec =
     (tie.spec
     Inv-loop
     μ-loop
+    (λ c. omega arith)
     loop-holds
     returns
     returns-2
