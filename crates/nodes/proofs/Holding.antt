@@ -4,17 +4,17 @@
 --     packed-new, packed-full   a node that is made in packed lists
 use mathlib.Core.Path.{_≡_, refl, sym, ap, ap₂, _∙_, subst, subst₂}
 use mathlib.Core.Logic.{inl, inr}
-use mathlib.Core.Bool.{Bool, true, false, cond, _&&_}
+use mathlib.Core.Bool.{Bool, false, cond, _&&_}
 use mathlib.Core.List.{List}
-use Prim.Native.Nat.{ℕ, _+_, _-_, _*_, _/_, _%_, _<_, _≤_}
+use Prim.Native.Nat.{ℕ, _+_, _*_, _/_, _%_, _<_, _≤_}
 use native.Mathlib.Omega.{arith}
-use lib.Dec.{eqb, ltb}
-use lib.ListN.{length, getD, set, length-set}
+use lib.Dec.{ltb}
+use lib.ListN.{length, getD, set}
 use borrow.Author.Tests.{eq-eqb, ne-eqb, lt-ltb, le-ltb}
 use Rattle.nodes.specs.declared.unique.Made.the-variants as made
 use Rattle.nodes.specs.declared.unique.Found.the-variants as found
 use Rattle.nodes.specs.Fun.{Fun}
-use Rattle.nodes.specs.Table.{Table, table, maxLength, levelOf, WellFormed}
+use Rattle.nodes.specs.Table.{Table, maxLength}
 use Rattle.nodes.specs.internal.Packed.{packing, levels, lows, packed-table}
 use Rattle.nodes.specs.internal.Parts.{covers, hashes, headsAt, memoryAt, linksIn, headsIn, memoIn}
 use Rattle.nodes.specs.internal.Index.{hashOf, coverage, Indexed, Indexing, Linked, Linking}

@@ -1,15 +1,18 @@
 -- A look-up from an entry of a table in order gives the value of what the entry stands for. Assumes nothing.
-use mathlib.Core.Path.{_≡_, refl, sym, ap, _∙_}
+use mathlib.Core.Path.{_≡_, refl, sym, ap, _∙_, subst}
 use mathlib.Core.Bool.{Bool, true, false, cond}
+use mathlib.Core.List.{[], _∷_}
 use Prim.Native.Nat.{ℕ, zero, suc, _+_, _≤_, _<_, zero-le}
 use native.Mathlib.Omega.{arith}
-use borrow.Author.Tests.{lt-ltb, le-leb, eq-eqb}
+use borrow.Author.Tests.{lt-ltb, le-leb, leb-true, eq-eqb, eqb-true}
 use lib.Dec.{ltb, leb, eqb}
 use lib.ListN.{length}
-use Rattle.nodes.specs.Fun.{Assignment, Fun}
+use Rattle.nodes.specs.Fun.{Assignment, Fun, digit}
 use Rattle.nodes.specs.Table.{Table, table, lastLevel, maxLength, levelOf, lowOf, highOf, choice, den, WellFormed}
+use Rattle.nodes.specs.internal.Start.{Fits}
 use Rattle.nodes.proofs.Tables.{den-0, den-1, den-node}
-use Rattle.nodes.specs.Lookup.{looked-up, Slices, table-fits, ending, walk-from, small, look-up}
+use Rattle.nodes.proofs.Working.{and-both}
+use Rattle.nodes.specs.Lookup.{looked-up, Slices, table-fits, numberOf, valuesOf, ending, walk-from, small, look-up}
 
 module _ (s : Slices) (used : ℕ) (formed : WellFormed (table (s .level) (s .low) (s .high) used)) (a : Assignment) where
   abbrev t : Table
@@ -69,3 +72,28 @@ pub looks-up : (s : Slices) (used : ℕ) → WellFormed (table (s .level) (s .lo
 unfolding look-up
 looks-up s used formed root α x x′ y y′ h ok =
     rw (formed-fits s used formed, ok) (walks s used formed (looked-up α x x′ y y′) (lastLevel + 2) 0 root h (λ _. zero-le) zero-le (omega arith))
+
+-- the same by document 01's number and values
+pub looks-up-values : (s : Slices) (used : ℕ) → WellFormed (table (s .level) (s .low) (s .high) used) → (root α x x′ y y′ : ℕ) → root < used
+    → small α x x′ y y′ ≡ true
+    → (numberOf (look-up s root α x x′ y y′) ≡ 0)
+    × (valuesOf (look-up s root α x x′ y y′) ≡ digit (den (table (s .level) (s .low) (s .high) used) root (looked-up α x x′ y y′)) ∷ [])
+looks-up-values s used formed root α x x′ y y′ h ok =
+    let e = looks-up s used formed root α x x′ y y′ h ok in
+    (ap numberOf e, ap valuesOf e)
+
+-- slices that fit, of which the last two hold a table
+pub fitting : (s : Slices) → table-fits s ≡ true → (length (s .low) ≡ length (s .level)) × Fits (s .low) (s .high)
+unfolding table-fits
+fitting s e =
+    let a = and-both (eqb (length (s .low)) (length (s .level))) _ e in
+    let b = and-both (eqb (length (s .high)) (length (s .level))) _ (a .1) in
+    let c = and-both (leb 2 (length (s .level))) _ (b .1) in
+    let low = eqb-true (length (s .low)) (length (s .level)) (a .0) in (
+      low,
+      record {
+        high-length = eqb-true (length (s .high)) (length (s .level)) (b .0) ∙ sym low;
+        least = subst (λ (n : ℕ). 2 ≤ n) (sym low) (leb-true 2 (length (s .level)) (c .0));
+        most = subst (λ (n : ℕ). n ≤ maxLength) (sym low) (leb-true (length (s .level)) maxLength (c .1));
+      },
+    )

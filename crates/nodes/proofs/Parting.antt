@@ -1,7 +1,7 @@
 -- Laws of the lists that calls hold: reading and storing in a packed list, and in a part of the work list. Assumes nothing.
-use mathlib.Core.Path.{_≡_, refl, sym, ap, ap₂, _∙_, subst}
+use mathlib.Core.Path.{_≡_, refl, ap, ap₂, _∙_}
 use mathlib.Core.List.{List, [], _∷_, map}
-use Prim.Native.Nat.{ℕ, zero, suc, _+_, _-_, _*_, _/_, _%_, _<_, _≤_, min}
+use Prim.Native.Nat.{ℕ, zero, suc, _+_, _-_, _/_, _<_, _≤_, min}
 use native.Mathlib.Omega.{arith}
 use lib.ListN.{length, getD, set, take, drop, length-set, length-drop, length-map, List·getD-map}
 use lib.Seq.{length-take-le, take-set-le, take-set-lt, drop-set-lt, drop-set-add, getD-take, getD-drop, getD-set-other}

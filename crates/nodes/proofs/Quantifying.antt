@@ -7,18 +7,17 @@ use mathlib.Core.Path.{_≡_, refl, sym, ap, ap₂, _∙_, fun-ext, subst, subst
 use mathlib.Core.Logic.{⊎-elim}
 use mathlib.Core.Bool.{Bool, true, false, _||_}
 use mathlib.Core.List.{List, [], _∷_, List·Memᴰ, List·Memᴰ·head, List·Memᴰ·tail, List·Memᴰ·cases-cons, List·Memᴰ·eq-of-singleton}
-use Prim.Native.Nat.{ℕ, suc, _-_, _/_, _%_, _<_, _≤_}
+use Prim.Native.Nat.{ℕ, suc, _<_, _≤_}
 use native.Mathlib.Omega.{arith}
 use lib.ListN.{length}
 use Rattle.nodes.specs.declared.unique.Made.the-variants as made
-use Rattle.nodes.specs.declared.room.Room.{Room}
 use Rattle.nodes.specs.declared.quantify.Trio.{Trio}
 use Rattle.nodes.specs.declared.quantify.Three.{Three}
 use Rattle.nodes.specs.declared.quantify.Three.the-variants as three
 use Rattle.nodes.specs.declared.quantify.Held.the-variants as held
 use Rattle.nodes.specs.Fun.{Fun, either, fixed, exists, Part, From}
 use Rattle.nodes.specs.Formula.{some, value}
-use Rattle.nodes.specs.Table.{Table, lastLevel, levelOf, choice, den, WellFormed}
+use Rattle.nodes.specs.Table.{Table, lastLevel, levelOf, choice, den, WellFormed, Entry}
 use Rattle.nodes.specs.internal.Growth.{Extends}
 use Rattle.nodes.specs.internal.Packed.{levels, lows, packed-table}
 use Rattle.nodes.specs.internal.Parts.{headsIn, linksIn, memoIn}
@@ -26,7 +25,7 @@ use Rattle.nodes.specs.internal.Index.{Indexed}
 use Rattle.nodes.specs.internal.Make.{Makeable, nodeFun, Making}
 use Rattle.nodes.specs.internal.Operate.{operation, Operands, cofactorOf, Cofactor, Quantified, quantifying, Recalls, Remembered, Stores, Keeping, Operating, quantifiedLevel, quantifiedEntry}
 use Rattle.nodes.specs.internal.Work.{Added, Has, Lacks, Store, store, roomOf, Ready, Keeps, After, Does, grew, filled, Stands, Maps}
-use Rattle.nodes.specs.internal.Quantify.{Funs, listed, results-of, Entry, Trebled, Quantifiable, MakeableThree, nodeFuns, RecalledThree, LacksThree, MakingThree, FinishingThree, Quantifying, anyOf}
+use Rattle.nodes.specs.internal.Quantify.{Funs, listed, results-of, Trebled, Quantifiable, MakeableThree, nodeFuns, RecalledThree, LacksThree, MakingThree, FinishingThree, Quantifying, anyOf}
 use Rattle.nodes.proofs.Funs.{shannon, from-put, from-fixed, part-fixed, part-refl}
 use Rattle.nodes.proofs.Parting.{levels-length}
 use Rattle.nodes.proofs.Tables.{den-from, den-extends}
@@ -422,10 +421,10 @@ module _ (t : Table) (v f : ℕ) (ok : Quantifiable t v f) where
 
 has-three : {t t′ : Table} (h : Funs) (r : Trio) → Trebled t t′ h r → (f : Fun) → List·Memᴰ f (listed h) → Has t′ f
 has-three h r x f m = ⊎-elim
-    (λ e. (r .zero, x .zero .0, x .zero .1 ∙ sym e))
+    (λ e. (r .zero, (x .zero .0, x .zero .1 ∙ sym e)))
     (λ m′. ⊎-elim
-    (λ e. (r .one, x .one .0, x .one .1 ∙ sym e))
-    (λ m″. (r .any, x .any .0, x .any .1 ∙ sym (List·Memᴰ·eq-of-singleton m″)))
+    (λ e. (r .one, (x .one .0, x .one .1 ∙ sym e)))
+    (λ m″. (r .any, (x .any .0, x .any .1 ∙ sym (List·Memᴰ·eq-of-singleton m″))))
     (List·Memᴰ·cases-cons m′))
     (List·Memᴰ·cases-cons m)
 

@@ -49,13 +49,13 @@ small α x x′ y y′ =
 -- ---- the answer
 
 -- document 01's number of the answer, 0 where there is none, and its values
-abbrev pub turnedOf : Looked → ℕ
-turnedOf (Value v) = 0
-turnedOf (Turned number) = number
+abbrev pub numberOf : Looked → ℕ
+numberOf (Value v) = 0
+numberOf (Turned number) = number
 
-abbrev pub shownOf : Looked → List ℕ
-shownOf (Value v) = v ∷ []
-shownOf (Turned number) = []
+abbrev pub valuesOf : Looked → List ℕ
+valuesOf (Value v) = v ∷ []
+valuesOf (Turned number) = []
 
 -- the value at the end of a walk
 abbrev pub ending : Bool → Looked

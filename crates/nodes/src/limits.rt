@@ -1,7 +1,9 @@
 // The limits of tables and look-ups.
 
-// The most bits of a state code, and how many codes there are of as many bits.
+// The most bits of a state code.
 pub const MAX_BITS: u8 = 20;
+
+// How many codes there are of as many bits.
 pub const CODES: u64 = 1 << MAX_BITS;
 
 // The largest level of a node: six levels for the action, and six for each bit of a code.

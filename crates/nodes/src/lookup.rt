@@ -1,6 +1,6 @@
 // A look-up in a node table: a walk from a root by the bits of an action and four state codes.
 ghost use mathlib.Core.Path.{_≡_};
-ghost use Prim.Native.Nat.{ℕ, _+_, _≤_};
+ghost use Prim.Native.Nat.{_+_};
 ghost use lib.ListN.{length};
 ghost use Rattle.nodes.specs.Table.{lastLevel};
 ghost use Rattle.nodes.specs.Lookup.{slices, table-fits, small, looked-up, walk-from, look-up};

@@ -37,8 +37,10 @@ pub enum Held {
     Nothing,
 }
 
-// The first number of ∃, behind those of the operations, and how many there are for each entry: more than there are levels.
+// The first number of ∃, behind those of the operations.
 const FIRST_NUMBER: u32 = 5 + 2 * (LAST_LEVEL as u32);
+
+// How many numbers of ∃ an entry has: more than there are levels.
 const LEVELS_EACH: u32 = 128;
 
 // The number under which the memory has the results of ∃v f: no operation's.

@@ -1,7 +1,7 @@
 -- What making a node needs and answers. Assumes nothing.
 use mathlib.Core.Path.{_≡_}
 use mathlib.Core.List.{List}
-use Prim.Native.Nat.{ℕ, _+_, _≤_, _<_}
+use Prim.Native.Nat.{ℕ, _≤_, _<_}
 use lib.ListN.{length}
 use Rattle.nodes.specs.declared.unique.Found.{Found}
 use Rattle.nodes.specs.declared.unique.Found.the-variants as found
@@ -12,7 +12,7 @@ use Rattle.nodes.specs.internal.Packed.{levels, lows}
 use Rattle.nodes.specs.internal.Parts.{linksIn, headsIn, memoIn}
 use Rattle.nodes.specs.internal.Index.{Indexed}
 use Rattle.nodes.specs.Table.{Table, table, lastLevel, levelOf, lowOf, highOf, choice, den, WellFormed}
-use Rattle.nodes.specs.internal.Growth.{Absent, Built, Short}
+use Rattle.nodes.specs.internal.Growth.{Absent, Built}
 
 -- a node of level v with children lo and hi would be in order
 pub record Makeable (t : Table) (v lo hi : ℕ) : Type 0 where
@@ -69,8 +69,3 @@ Makes t level low high head next f made.Full = MadeFull t level low high f
 -- the same of the lists that a call holds: the memory of results is as it was
 abbrev pub Making : Table → List ℕ → List ℕ → List ℕ → List ℕ → Fun → Made → Type 0
 Making t packed high work work′ f r = Makes t (levels packed) (lows packed) high (headsIn work′) (linksIn work′) f r × (memoIn work′ ≡ memoIn work)
-
--- the answer of an operation whose result on the table t is f, and the lists that it leaves
-abbrev pub Answers : Table → List ℕ → List ℕ → List ℕ → Fun → Made → Type 0
-Answers t level low high f (made.At i n) = Built t (table level low high n) f i
-Answers t level low high f made.Full = Short t (table level low high (length level)) f

@@ -12,7 +12,7 @@ use Rattle.nodes.specs.declared.quantify.Three.the-variants as three
 use Rattle.nodes.specs.declared.quantify.Held.{Held}
 use Rattle.nodes.specs.declared.quantify.Held.the-variants as held
 use Rattle.nodes.specs.Fun.{Fun, fixed, exists}
-use Rattle.nodes.specs.Table.{Table, lastLevel, den, WellFormed}
+use Rattle.nodes.specs.Table.{Table, lastLevel, Entry, WellFormed}
 use Rattle.nodes.specs.internal.Packed.{levels, packed-table}
 use Rattle.nodes.specs.internal.Parts.{memoIn}
 use Rattle.nodes.specs.internal.Index.{Indexing}
@@ -32,10 +32,6 @@ listed h = h .zero ∷ h .one ∷ h .any ∷ []
 -- the functions that ∃v F lists
 abbrev pub results-of : ℕ → Fun → Funs
 results-of v F = record { zero = fixed v false F; one = fixed v true F; any = exists v F }
-
--- entry i stands for f
-abbrev pub Entry : Table → ℕ → Fun → Type 0
-Entry t i f = (i < t .used) × (den t i ≡ f)
 
 -- the entries r of t′ stand for the functions h, and whatever is new in t′ was needed for them
 pub record Trebled (t t′ : Table) (h : Funs) (r : Trio) : Type 0 where

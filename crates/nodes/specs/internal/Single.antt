@@ -1,8 +1,7 @@
 -- Single functions: each is listed as a whole. Assumes nothing.
-use mathlib.Core.Path.{_≡_}
-use mathlib.Core.Bool.{Bool, true, false, cond}
+use mathlib.Core.Bool.{Bool, true, false}
 use mathlib.Core.List.{[], _∷_}
-use Prim.Native.Nat.{ℕ, zero, suc, _+_, _*_, _≤_, _<_}
+use Prim.Native.Nat.{ℕ, zero, suc, _+_, _*_, _≤_}
 use lib.Dec.{eqb, ltb}
 use Rattle.nodes.specs.Fun.{Assignment, Fun, From, digit, never}
 use Rattle.nodes.specs.Table.{lastLevel, choice}

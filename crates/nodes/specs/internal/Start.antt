@@ -12,14 +12,7 @@ use Rattle.nodes.specs.internal.Work.{Store, Ready}
 abbrev pub Clear : List ℕ → Type 0
 Clear s = (k : ℕ) → getD s k 0 ≡ 0
 
--- the slices of a table fit
-pub record Fit (level low high : List ℕ) : Type 0 where
-  pub low-length : length low ≡ length level
-  pub high-length : length high ≡ length level
-  pub least : 2 ≤ length level
-  pub most : length level ≤ maxLength
-
--- the same of the two that calls hold
+-- the two slices in which calls hold a table fit
 pub record Fits (packed high : List ℕ) : Type 0 where
   pub high-length : length high ≡ length packed
   pub least : 2 ≤ length packed

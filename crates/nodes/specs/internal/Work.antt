@@ -11,7 +11,7 @@ use Rattle.nodes.specs.declared.unique.Made.{Made}
 use Rattle.nodes.specs.declared.unique.Made.the-variants as made
 use Rattle.nodes.specs.Fun.{Fun, Part, Varies, From}
 use Rattle.nodes.specs.Formula.{Formula, ⟪_⟫, value, results}
-use Rattle.nodes.specs.Table.{Table, choice, den, WellFormed}
+use Rattle.nodes.specs.Table.{Table, choice, den, Entry, WellFormed}
 use Rattle.nodes.specs.internal.Growth.{Extends, Absent}
 use Rattle.nodes.specs.internal.Packed.{packed-table}
 use Rattle.nodes.specs.internal.Operate.{Helping, operation}
@@ -29,7 +29,7 @@ pub record Added (t t′ : Table) (fs : List Fun) : Type 0 where
 
 -- an entry stands for f
 abbrev pub Has : Table → Fun → Type 0
-Has t f = (i : ℕ) × (i < t .used) × (den t i ≡ f)
+Has t f = (i : ℕ) × Entry t i f
 
 -- the functions fs were worked out: t′ has them, and nothing new but what they need
 pub record Grows (t t′ : Table) (fs : List Fun) : Type 0 where
@@ -97,7 +97,7 @@ pub data Does (s s′ : Store) (fs : List Fun) : Type 0 where
 
 -- entry i stands for f, where the table is not full
 abbrev pub Stands : Store → ℕ → Fun → Type 0
-Stands s i f = s .full ≡ false → (i < s .table .used) × (den (s .table) i ≡ f)
+Stands s i f = s .full ≡ false → Entry (s .table) i f
 
 -- a formula was worked out, with its list, and entry i stands for its value
 pub record Gives (s s′ : Store) (φ : Formula) (i : ℕ) : Type 0 where

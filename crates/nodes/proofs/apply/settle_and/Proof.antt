@@ -4,8 +4,6 @@ use Rattle.nodes.proofs.Operating.{and-0-left, and-0-right, and-1-left,
 use borrow.Author.Needs.{needs}
 use Rattle.nodes.proofs.apply.settle_and.Statement.{statement}
 use Rattle.nodes.proofs.apply.settle_and.Tie as tie
-use Rattle.nodes.proofs.apply.settle_and.Reads as reads
-use Rattle.nodes.proofs.apply.settle_and.Lts as lts
 
 -- src/lib.rt:194:9
 returns : tie.Need-returns

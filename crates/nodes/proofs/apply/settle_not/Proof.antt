@@ -4,8 +4,6 @@ use Rattle.nodes.proofs.Operating.{not-0, not-1}
 use borrow.Author.Needs.{needs}
 use Rattle.nodes.proofs.apply.settle_not.Statement.{statement}
 use Rattle.nodes.proofs.apply.settle_not.Tie as tie
-use Rattle.nodes.proofs.apply.settle_not.Reads as reads
-use Rattle.nodes.proofs.apply.settle_not.Lts as lts
 
 -- src/lib.rt:230:9
 returns : tie.Need-returns

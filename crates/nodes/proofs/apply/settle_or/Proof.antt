@@ -4,8 +4,6 @@ use Rattle.nodes.proofs.Operating.{or-1-left, or-1-right, or-0-left, or
 use borrow.Author.Needs.{needs}
 use Rattle.nodes.proofs.apply.settle_or.Statement.{statement}
 use Rattle.nodes.proofs.apply.settle_or.Tie as tie
-use Rattle.nodes.proofs.apply.settle_or.Reads as reads
-use Rattle.nodes.proofs.apply.settle_or.Lts as lts
 
 -- src/lib.rt:212:9
 returns : tie.Need-returns

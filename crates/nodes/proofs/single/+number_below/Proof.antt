@@ -1,7 +1,6 @@
 -- `nodes::number_below` meets its contract, digit by digit. Assumes nothing.
 use borrow.Author.Needs.{needs}
 use mathlib.Core.Path.{sym, subst}
-use mathlib.Core.Bool.{Bool}
 use native.Mathlib.Omega.{arith}
 use Rattle.nodes.specs.declared.room.Room.{Room}
 use Rattle.nodes.specs.internal.Single.{numberBelow}

@@ -1,14 +1,12 @@
 -- `nodes::clear` meets its contract. The loop's invariant: every number passed is 0. Assumes nothing.
 use mathlib.Core.Path.{_≡_, refl, sym, _∙_, subst}
-use Prim.Native.Nat.{ℕ, _+_, _-_, _≤_, _<_}
+use Prim.Native.Nat.{ℕ, _-_, _≤_, _<_}
 use native.Mathlib.Omega.{arith}
 use lib.ListN.{length, getD, set, length-set, List·getD-eq-default}
 use lib.Seq.{getD-set-same, getD-set-other}
 use Rattle.nodes.proofs.Funs.{by-lt, by-eq}
 use Rattle.nodes.proofs.start.clear.Statement.{statement}
 use Rattle.nodes.proofs.start.clear.Tie as tie
-use Rattle.nodes.proofs.start.clear.Reads as reads
-use Rattle.nodes.proofs.start.clear.Lts as lts
 
 abbrev Inv-loop : tie.InvT-loop
 Inv-loop s₀ i₀ s i = (length s ≡ length s₀) × (i ≤ length s) × ((k : ℕ) → k < i → getD s k 0 ≡ 0)

@@ -3,7 +3,6 @@
 use Prim.{tt}
 use mathlib.Core.Path.{sym, _∙_}
 use mathlib.Core.Logic.{⊎-elim}
-use Prim.Native.Nat.{ℕ, _≤_, _<_}
 use native.Mathlib.Omega.{arith}
 use Rattle.nodes.specs.internal.Packed.{packed-table}
 use Rattle.nodes.specs.internal.Parts.{linksIn, headsIn}
