@@ -1,6 +1,6 @@
 // ∃ of a level by one recursion, which works out its three functions at a time.
 ghost use mathlib.Core.Path.{_≡_};
-ghost use Prim.Native.Nat.{_-_, _≤_, _<_};
+ghost use Prim.Native.Nat.{_≤_, _<_};
 ghost use Rattle.nodes.specs.internal.Parts.{memoIn};
 ghost use Rattle.nodes.specs.internal.Operate.{lastNumber, quantifying, Keeping, Helping};
 ghost use Rattle.nodes.specs.Table.{maxLength, lastLevel, levelOf, den};

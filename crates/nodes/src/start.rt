@@ -1,7 +1,6 @@
 // How a table begins, and how it is left in the three slices of document 01.
 ghost use mathlib.Core.Path.{_≡_};
 ghost use mathlib.Core.Bool.{false};
-ghost use Prim.Native.Nat.{_-_};
 ghost use Rattle.nodes.specs.internal.Lent.{table-in, leaving};
 ghost use Rattle.nodes.specs.internal.Packed.{packed-table};
 ghost use Rattle.nodes.specs.internal.Start.{Clear, Fits, Starts, Unpackable, Unpacked};

@@ -1,5 +1,5 @@
 // The unique table: a node is found by its level and its children, and made only where there is none.
-ghost use Prim.Native.Nat.{_-_, _<_};
+ghost use Prim.Native.Nat.{_<_};
 ghost use Rattle.nodes.specs.internal.Parts.{linksIn, headsIn};
 ghost use Rattle.nodes.specs.Table.{maxLength, WellFormed};
 ghost use Rattle.nodes.specs.internal.Index.{coverage, Indexing, Linking};
