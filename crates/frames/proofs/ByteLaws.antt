@@ -11,7 +11,8 @@ use borrow.Author.Tests.{lt-ltb, le-ltb, le-leb, lt-leb, ltb-true, leb-true, leb
 use lib.Dec.{ltb, leb}
 use lib.ListN.{length, take, drop, getD, set, replicate, length-append, length-replicate, drop-of-length-le}
 use lib.Seq.{drop-cons, take-suc, take-at, set-at, append-snoc, length-take-le}
-use Rattle.frames.specs.Bytes.{hexValue, isHex, all, spelt, bytesOf, maxBytes, decodingOf, heldBy, decoded}
+use Rattle.frames.specs.Bytes.{hexValue, isHex, all, spelt, bytesOf, maxBytes}
+use Rattle.frames.specs.internal.Decoded.{decodingOf, heldBy, decoded}
 use Rattle.frames.specs.declared.bytes.Decoding.{Decoding}
 use Rattle.frames.specs.declared.bytes.Decoding.the-variants.{Bytes, Stray, Long}
 use Rattle.frames.specs.declared.bytes.Decoded.{Decoded}

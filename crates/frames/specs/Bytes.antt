@@ -1,12 +1,9 @@
 -- The bytes that a line's digits spell, and decoding them.
 use Prim.Native.Nat.{ℕ, _+_, _-_, _*_, _%_}
 use mathlib.Core.Bool.{Bool, true, cond, _&&_}
-use mathlib.Core.List.{List, [], _∷_, _++_}
+use mathlib.Core.List.{List, [], _∷_}
 use lib.Dec.{ltb, leb, eqb}
-use lib.ListN.{length, replicate}
-use Rattle.frames.specs.declared.bytes.Decoding.{Decoding}
-use Rattle.frames.specs.declared.bytes.Decoding.the-variants.{Bytes, Stray, Long}
-use Rattle.frames.specs.declared.bytes.Decoded.{Decoded}
+use lib.ListN.{length}
 
 -- the value of a digit 0-9 A-F; 16 for any other byte
 unfoldable pub hexValue : ℕ → ℕ
@@ -37,18 +34,3 @@ bytesOf (a ∷ b ∷ ds) = (hexValue a * 16 + hexValue b) ∷ bytesOf ds
 -- A frame has at most so many bytes.
 abbrev pub maxBytes : ℕ
 maxBytes = 255
-
--- What decoding answers: how many bytes the digits spell; Stray where a byte is no digit, or a digit is alone; Long where there are
--- more bytes than a frame may have.
-unfoldable pub decodingOf : List ℕ → Decoding
-decodingOf ds = cond (spelt ds) (cond (leb (length (bytesOf ds)) maxBytes) (Bytes (length (bytesOf ds))) Long) Stray
-
--- the bytes as they are handed over: with zeros up to 255 of them, and zeros alone where the digits are turned down
-unfoldable pub heldBy : Decoding → List ℕ → List ℕ
-heldBy (Bytes n) b = b ++ replicate (maxBytes - n) 0
-heldBy Stray b = replicate maxBytes 0
-heldBy Long b = replicate maxBytes 0
-
--- Decoding a line's digits.
-unfoldable pub decoded : List ℕ → Decoded
-decoded ds = record { answer = decodingOf ds; bytes = heldBy (decodingOf ds) (bytesOf ds) }

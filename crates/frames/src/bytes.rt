@@ -4,7 +4,8 @@ ghost use mathlib.Core.Bool.{true};
 ghost use mathlib.Core.List.{_++_};
 ghost use Prim.Native.Nat.{_-_, _≤_};
 ghost use lib.ListN.{length, replicate};
-ghost use Rattle.frames.specs.Bytes.{hexValue, isHex, all, spelt, bytesOf, maxBytes, decoded};
+ghost use Rattle.frames.specs.Bytes.{hexValue, isHex, all, spelt, bytesOf, maxBytes};
+ghost use Rattle.frames.specs.internal.Decoded.{decoded};
 
 // A frame has at most so many bytes.
 pub const MAX_BYTES: usize = 255;

@@ -11,3 +11,4 @@ pub mod Quantify
 pub mod Lent
 pub mod Single
 pub mod Zero
+pub mod Several

@@ -2,7 +2,8 @@
 ghost use mathlib.Core.Path.{_≡_};
 ghost use Prim.Native.Nat.{_-_, _≤_};
 ghost use Rattle.nodes.specs.Table.{lastLevel};
-ghost use Rattle.nodes.specs.Formula.{some-from, renamed, renamed-from, bit, fix-below};
+ghost use Rattle.nodes.specs.Formula.{renamed, bit, fix-below};
+ghost use Rattle.nodes.specs.internal.Several.{some-from, renamed-from};
 ghost use Rattle.nodes.specs.internal.Single.{Spaced};
 ghost use Rattle.nodes.specs.internal.Lent.{holding, entering, leaving};
 ghost use Rattle.nodes.specs.internal.Work.{Ready, Maps};

@@ -6,7 +6,8 @@ use Prim.Native.Nat.{_<_}
 use native.Mathlib.Omega.{arith}
 use lib.ListN.{length}
 use borrow.Author.Tests.{not-true, not-false}
-use Rattle.frames.specs.Bytes.{spelt, bytesOf, maxBytes, heldBy, decoded}
+use Rattle.frames.specs.Bytes.{spelt, bytesOf, maxBytes}
+use Rattle.frames.specs.internal.Decoded.{heldBy, decoded}
 use Rattle.frames.proofs.ByteLaws.{length-bytes, decoding-stray, decoding-long, decoding-bytes}
 use borrow.Author.Needs.{needs}
 use Rattle.frames.proofs.bytes.decode.Statement.{statement}

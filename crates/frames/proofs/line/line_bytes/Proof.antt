@@ -1,7 +1,7 @@
 -- `frames::line::line_bytes` meets its contract: the calls, in order.
 -- Assumes nothing.
 use mathlib.Core.Path.{ap, _∙_}
-use Rattle.frames.specs.Bytes.{decoded}
+use Rattle.frames.specs.internal.Decoded.{decoded}
 use Rattle.frames.specs.Line.{digitsAt}
 use borrow.Author.Needs.{needs}
 use Rattle.frames.proofs.line.line_bytes.Statement.{statement}

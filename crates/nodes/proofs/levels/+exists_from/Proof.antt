@@ -3,7 +3,7 @@ use borrow.Author.Needs.{needs}
 use mathlib.Core.Path.{sym, subst}
 use native.Mathlib.Omega.{arith}
 use Rattle.nodes.specs.declared.room.Room.{Room}
-use Rattle.nodes.specs.Formula.{some-from}
+use Rattle.nodes.specs.internal.Several.{some-from}
 use Rattle.nodes.specs.internal.Work.{store, Maps}
 use Rattle.nodes.proofs.Singles.{spaced-next, maps-none, some-none, maps-some}
 use Prim.Native.Nat.{ℕ, _<_}
