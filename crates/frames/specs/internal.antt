@@ -2,3 +2,4 @@
 pub mod Cut
 pub mod Decoded
 pub mod Accepted
+pub mod Lines
