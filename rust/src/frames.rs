@@ -72,7 +72,7 @@ impl Lines {
 
     /// The model whose last line is the given one.
     pub fn up_to(&self, line: usize) -> Lines {
-        Lines { frames: self.frames.iter().take(line + 1).cloned().collect() }
+        Lines { frames: self.frames.iter().take(line.saturating_add(1)).cloned().collect() }
     }
 
     /// The leaves that the last line uses, lowest bits first; a leaf stands as often as it is used.

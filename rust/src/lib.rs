@@ -19,6 +19,7 @@ mod model;
 mod refusal;
 mod table;
 
+pub use frames::LeafUse;
 pub use model::{model, Model};
 pub use refusal::{Fault, Refusal, Side};
 pub use table::{Mode, Root, Table, TableError, Verdict, MAX_TABLE};

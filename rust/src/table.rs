@@ -105,9 +105,24 @@ impl Table {
         limit: u64,
     ) -> Result<Verdict<'_>, Refusal> {
         let mut answer = [0u64; 6];
+        let kind = self.call([left, right], mode, limit, &mut answer);
+        if kind == ffi::REFUSED {
+            return Err(Refusal::of(answer));
+        }
+        let root = |entry| Root { table: self, entry };
+        Ok(Verdict {
+            left: root(answer[0]),
+            right: root(answer[1]),
+            largest: (kind == 0).then_some(root(answer[2])),
+            rounds: answer[3],
+            nodes: answer[4],
+        })
+    }
+
+    fn call(&mut self, [left, right]: [&[u8]; 2], mode: Mode, limit: u64, answer: &mut [u64; 6]) -> u64 {
         // SAFETY: each pointer comes with the length of the slice that it points to; the slices are apart, and the library
         // writes to those that are lent as mutable only.
-        let kind = unsafe {
+        unsafe {
             ffi::seipolku_compare(
                 left.as_ptr(),
                 left.len(),
@@ -130,18 +145,7 @@ impl Table {
                 answer.as_mut_ptr(),
                 answer.len(),
             )
-        };
-        if kind == ffi::REFUSED {
-            return Err(Refusal::of(answer));
         }
-        let root = |entry| Root { table: self, entry };
-        Ok(Verdict {
-            left: root(answer[0]),
-            right: root(answer[1]),
-            largest: (kind == 0).then_some(root(answer[2])),
-            rounds: answer[3],
-            nodes: answer[4],
-        })
     }
 }
 
@@ -192,7 +196,7 @@ impl Root<'_> {
     /// 63 or a code has more than 20 bits.
     pub fn look_up(&self, action: u64, codes: [u64; 4]) -> Result<bool, Refusal> {
         let Table { level, low, high, .. } = self.table;
-        // SAFETY: as in `compare`; nothing is written.
+        // SAFETY: as in `Table::call`; nothing is written.
         let value = unsafe {
             ffi::seipolku_look_up(
                 level.as_ptr(),

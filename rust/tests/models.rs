@@ -1,7 +1,7 @@
 //! What the model of a text is: stored texts, and the leaves' places against look-ups.
 
-use seipolku::frames::{Frame, LeafUse, Lines};
-use seipolku::{model, Mode, Model, Side, Table};
+use seipolku::frames::{Frame, Lines};
+use seipolku::{model, LeafUse, Mode, Model, Side, Table};
 use std::fs;
 use std::path::PathBuf;
 
@@ -37,35 +37,56 @@ fn unused_lines() {
     assert_eq!(found, Model { bits: 3, lines: 3, uses: 1, states: 5, leaves: vec![leaf(1, 0, 3, 5)] });
 }
 
+/// The texts and the answer of each stored vector.
+fn vectors() -> Vec<([Vec<u8>; 2], Vec<String>)> {
+    let files = ["tests/vectors.tsv", "models/vectors.tsv"];
+    let all = files.map(|file| fs::read_to_string(repository(file)).unwrap()).concat();
+    let vector = |line: &str| {
+        let fields: Vec<&str> = line.split('\t').collect();
+        ([text(fields[1]), text(fields[2])], fields[6].split(' ').map(str::to_string).collect())
+    };
+    all.lines().filter(|line| !line.is_empty() && !line.starts_with('#')).map(vector).collect()
+}
+
 /// Numbers and lines of the refusals that stand in the vectors; their other texts are accepted.
 #[test]
 fn stored_texts() {
-    let mut refused = 0;
-    let mut accepted = 0;
-    for file in ["tests/vectors.tsv", "models/vectors.tsv"] {
-        let vectors = fs::read_to_string(repository(file)).unwrap();
-        for line in vectors.lines().filter(|line| !line.is_empty() && !line.starts_with('#')) {
-            let fields: Vec<&str> = line.split('\t').collect();
-            let answer: Vec<&str> = fields[6].split(' ').collect();
-            let texts = [text(fields[1]), text(fields[2])];
-            match (answer[0], answer[1].parse::<u64>().unwrap()) {
-                ("refused", 7) => continue,
-                ("refused", number @ 1..=6) => {
-                    let side: usize = answer[2].parse().unwrap();
-                    let refusal = model(&texts[side]).unwrap_err();
-                    let found = (refusal.fault.number(), refusal.side, refusal.line);
-                    assert_eq!(found, (number, Side::Left, answer[3].parse().unwrap()), "{line}");
-                    refused += 1;
-                    assert!(side == 0 || model(&texts[0]).is_ok(), "{line}");
-                }
-                _ => {
-                    accepted += 1;
-                    assert!(texts.iter().all(|text| model(text).is_ok()), "{line}");
-                }
+    let (mut refused, mut accepted) = (0, 0);
+    for (texts, answer) in vectors() {
+        let number = |place: usize| answer[place].parse::<u64>().unwrap();
+        match (answer[0].as_str(), number(1)) {
+            ("refused", 7) => continue,
+            ("refused", 1..=6) => {
+                let refusal = model(&texts[number(2) as usize]).unwrap_err();
+                let found = (refusal.fault.number(), refusal.side, refusal.line);
+                assert_eq!(found, (number(1), Side::Left, number(3)));
+                refused += 1;
+            }
+            _ => {
+                assert!(texts.iter().all(|text| model(text).is_ok()));
+                accepted += 1;
             }
         }
     }
     assert!(refused > 50 && accepted > 50, "{refused} refused, {accepted} accepted");
+}
+
+/// A text with one byte changed is refused as a comparison refuses it on the left, beside an empty text.
+#[test]
+fn changed_texts() {
+    let mut table = Table::new(2).unwrap();
+    let mut accepted = 0;
+    for (place, ([mut text, _], _)) in vectors().into_iter().enumerate() {
+        for at in (place % 5..text.len()).step_by(5) {
+            let before = std::mem::replace(&mut text[at], b"01F\na"[(place + at) % 5]);
+            let beside = table.compare(&text, b"", Mode::Strong, 0).unwrap_err();
+            let alone = model(&text);
+            assert_eq!(alone.as_ref().err(), Some(&beside).filter(|r| r.side == Side::Left));
+            accepted += u64::from(alone.is_ok());
+            text[at] = before;
+        }
+    }
+    assert!(accepted > 100, "{accepted}");
 }
 
 /// `/` stands for byte 0A and `\xHH` for byte HH.
