@@ -172,7 +172,7 @@ impl Number for u32 {}
 
 /// An entry of the table that a verdict left. It borrows that table, so it is looked up there and as long as the verdict stands:
 ///
-/// ```compile_fail,E0502
+/// ```compile_fail,E0499
 /// # use seipolku::{Mode, Table};
 /// let mut table = Table::new(4096).unwrap();
 /// let root = table.compare(b"000101\n", b"000101\n", Mode::Weak, 9).unwrap().left;
