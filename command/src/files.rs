@@ -90,8 +90,8 @@ pub fn relative(from: &Path, file: &Path) -> Option<String> {
 pub fn straight(path: PathBuf) -> PathBuf {
     let mut shorter = PathBuf::new();
     for part in path.components() {
-        let up =
-            part == Component::ParentDir && matches!(shorter.components().last(), Some(Component::Normal(_)));
+        let up = part == Component::ParentDir
+            && matches!(shorter.components().next_back(), Some(Component::Normal(_)));
         if !up || !shorter.pop() {
             shorter.push(part);
         }

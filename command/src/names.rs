@@ -205,43 +205,28 @@ impl Entry<'_> {
     }
 
     fn number_at(&self, index: usize) -> Result<usize, Misplaced> {
-        let found = self.words[index].name().and_then(|w| w.parse::<u16>().ok());
-        match found {
-            Some(number) => Ok(usize::from(number)),
-            None => misplaced(
-                self.number,
-                self.words[index].column,
-                "a number is due here; write one in decimal digits.",
-            ),
-        }
+        let number = self.words[index].name().and_then(|w| w.parse::<u16>().ok());
+        self.due(index, number.map(usize::from), "a number is due here; write one in decimal digits.")
     }
 
     fn name_at(&self, index: usize) -> Result<String, Misplaced> {
-        match self.words[index].name() {
-            Some(name) => Ok(name.to_string()),
-            None => misplaced(
-                self.number,
-                self.words[index].column,
-                "a name is due here; write one, in quotes if need be.",
-            ),
-        }
+        let name = self.words[index].name().map(str::to_string);
+        self.due(index, name, "a name is due here; write one, in quotes if need be.")
     }
 
     fn digest_at(&self, index: usize) -> Result<String, Misplaced> {
-        match self.words[index].name().filter(|word| sha256::is_digest(word)) {
-            Some(digest) => Ok(digest.to_string()),
-            None => misplaced(
-                self.number,
-                self.words[index].column,
-                "a digest of 64 hexadecimal digits is due here; build the text anew.",
-            ),
-        }
+        let digest = self.words[index].name().filter(|word| sha256::is_digest(word)).map(str::to_string);
+        self.due(index, digest, "a digest of 64 hexadecimal digits is due here; build the text anew.")
     }
 
     fn kind_at(&self, index: usize) -> Result<Kind, Misplaced> {
-        let sentence = "the kind of a source is model or aut; write one of these.";
         let kind = self.words[index].name().and_then(Kind::of);
-        kind.ok_or_else(|| Misplaced::new(self.number, self.words[index].column, sentence))
+        self.due(index, kind, "the kind of a source is model or aut; write one of these.")
+    }
+
+    /// What a word was read as, or what is due in its place.
+    fn due<T>(&self, index: usize, read: Option<T>, sentence: &str) -> Result<T, Misplaced> {
+        read.ok_or_else(|| Misplaced::new(self.number, self.words[index].column, sentence))
     }
 
     fn wants_line(&self, line: usize) -> Result<(), Misplaced> {

@@ -23,7 +23,7 @@ pub fn digest(bytes: &[u8]) -> String {
     // Zeros up to the last eight bytes of a block, which hold the length in bits.
     padded.resize((bytes.len() + 8) / 64 * 64 + 56, 0);
     padded.extend((8 * bytes.len() as u64).to_be_bytes());
-    let state = padded.chunks_exact(64).fold(START, |state, block| after(state, block));
+    let state = padded.chunks_exact(64).fold(START, after);
     state.iter().map(|word| format!("{word:08x}")).collect()
 }
 

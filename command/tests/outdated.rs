@@ -2,7 +2,7 @@
 
 mod common;
 
-use common::Folder;
+use common::{top, Folder};
 use std::fs;
 
 const MODEL: &str = "channels a\nleaf x\n  s -- out a --> t\n";
@@ -189,6 +189,37 @@ fn other_names_of_the_files() {
     folder.write("a $b.model", OTHER);
     let ran = folder.run(&["show", "a $b.hex"]);
     assert!(ran.err.contains("Rebuild it with 'seipolku build \"a \\$b.model\"'"), "{}", ran.err);
+}
+
+/// A path that a name table can't hold.
+#[test]
+fn unwritable_paths() {
+    let folder = Folder::new();
+    folder.write("a\tb.model", MODEL);
+    let ran = folder.run(&["build", "a\tb.model"]);
+    assert_eq!(ran.status, 0);
+    assert!(
+        ran.err.starts_with("note: the path of a\tb.model can't be written into a name table"),
+        "{}",
+        ran.err
+    );
+    folder.write("a\tb.model", OTHER);
+    folder.done(&["show", "a\tb.hex"]);
+}
+
+/// What the tutorial says of a repair in place.
+#[test]
+fn as_the_tutorial_says() {
+    let folder = Folder::new();
+    fs::create_dir(folder.0.join("examples")).unwrap();
+    for name in ["journal_faulty.aut", "journal_flushed.aut", "service.aut"] {
+        fs::copy(top().join("examples").join(name), folder.0.join("examples").join(name)).unwrap();
+    }
+    folder.done(&["from-aut", "examples/journal_faulty.aut", "examples/service.aut"]);
+    folder.write("examples/journal_faulty.aut", folder.read("examples/journal_flushed.aut"));
+    let said = folder.run(&["compare", "examples/journal_faulty.hex", "examples/service.hex"]).err;
+    let tutorial = fs::read_to_string(top().join("docs/TUTORIAL.md")).unwrap();
+    assert!(tutorial.contains(&format!("\n    {said}")), "{said}");
 }
 
 /// Tables without a record, as models/ has them, are taken as they are.
