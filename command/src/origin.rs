@@ -62,12 +62,15 @@ pub struct Origin {
 impl Origin {
     /// What a table in the folder records; nothing if a path can't be written there.
     pub fn recorded(text: &str, sources: &[Read], folder: &Path) -> Option<Origin> {
-        let relative = |read: &Read| {
+        let mut origin = Origin { text: Some(sha256::digest(text.as_bytes())), sources: Vec::new() };
+        for read in sources {
             let file = PathBuf::from(files::relative(folder, &read.file)?);
-            Some(Read { file, ..read.clone() })
-        };
-        let sources = sources.iter().map(relative).collect::<Option<Vec<Read>>>()?;
-        Some(Origin { text: Some(sha256::digest(text.as_bytes())), sources })
+            // One file may have been read by two paths.
+            if origin.sources.iter().all(|earlier| earlier.file != file) {
+                origin.sources.push(Read { file, ..read.clone() });
+            }
+        }
+        Some(origin)
     }
 
     /// The lines of the name table.

@@ -78,6 +78,15 @@ fn changed_source() {
     accepted(&folder);
 }
 
+/// A source with a mistake leaves the old text, which is not taken for it.
+#[test]
+fn failed_build() {
+    let folder = built();
+    folder.write("x.model", "leaf x\n  s -- tau\n");
+    assert_eq!(folder.run(&["build", "x.model"]).status, 3);
+    outdated(&folder, "x.model has changed since x.hex was built from it.");
+}
+
 /// The content counts, not the time.
 #[test]
 fn written_again() {
@@ -120,7 +129,8 @@ fn aut_files() {
 fn parts() {
     let folder = built();
     folder.write("part.aut", "des (0, 0, 1)\n");
-    folder.write("x.model", "leaf one from \"part.aut\"\nleaf two from \"part.aut\"\nx = compose one two\n");
+    folder
+        .write("x.model", "leaf one from \"part.aut\"\nleaf two from \"./part.aut\"\nx = compose one two\n");
     folder.done(&["build", "x.model"]);
     folder.done(&["compare", "x.hex", "x.hex"]);
     folder.write("part.aut", "des (0, 1, 1)\n(0, i, 0)\n");

@@ -65,13 +65,11 @@ fn readable_form(file: &Path) -> Result<(), Failure> {
     }
 }
 
-/// An .aut file beside the one that names it, noted once among those that were read.
+/// An .aut file beside the one that names it, noted among those that were read.
 fn open_aut(file: &Path, name: &str, all: &mut Vec<Read>) -> Result<Aut, String> {
     let path = file.with_file_name(name);
     let (read, text) = Read::text(Kind::Aut, &path).map_err(|failure| failure.0)?;
-    if all.iter().all(|earlier| earlier.file != read.file) {
-        all.push(read);
-    }
+    all.push(read);
     aut::parse(&text).map_err(|wrong| wrong.within(&path).0)
 }
 
@@ -98,7 +96,7 @@ pub fn write_all(sources: &[Written], given: &Given) -> Answer {
         sources.iter().flat_map(|w| ["hex", "names"].map(|ending| target(w, ending))).collect();
     let read = sources.iter().flat_map(|w| &w.read).map(|read| read.file.clone());
     let read: Vec<PathBuf> = read.chain(given.path("--names").map(Path::to_path_buf)).collect();
-    let advice = "write into another folder with --into, or give a file that is read another name or ending, such as .model";
+    let advice = "write into another folder with --into, or copy the file that is read to another name";
     output::apart(&read, &targets, advice)?;
     let mut outcome = Outcome::default();
     for ((source, built), targets) in sources.iter().zip(built).zip(targets.chunks_exact(2)) {
