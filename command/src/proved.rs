@@ -1,6 +1,6 @@
 //! The calls of the proved library. Every answer about a model comes from here.
 
-use crate::outcome::{fail, Failure};
+use crate::outcome::{fail, grouped, Failure};
 use seipolku::{Fault, Mode, Refusal, Root, Side, Table, TableError, MAX_TABLE};
 
 pub const LIMIT: u64 = 1_000_000;
@@ -18,7 +18,7 @@ pub fn table(entries: u64) -> Result<Lent, Failure> {
         Ok(table) => Ok(Lent(Some(table))),
         Err(TableError::Length) => Ok(Lent(None)),
         Err(TableError::Memory) => {
-            fail("there is no memory for the table; give a smaller one with --nodes N.")
+            fail(format!("there is no memory for a table of {} entries.", grouped(entries)))
         }
     }
 }
