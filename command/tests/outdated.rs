@@ -104,6 +104,9 @@ fn changed_text() {
         &folder,
         "x.hex is not the text that was built from x.model. Rebuild it with 'seipolku build x.model",
     );
+    fs::rename(folder.0.join("x.model"), folder.0.join("gone.model")).unwrap();
+    accepted_alone(&folder);
+    fs::rename(folder.0.join("gone.model"), folder.0.join("x.model")).unwrap();
     folder.write("x.names", folder.read("x.names").replace("text ", "# ").replace("source ", "# "));
     folder.done(&["show", "x.hex"]);
 }
@@ -138,8 +141,16 @@ fn parts() {
         &folder,
         "part.aut has changed since x.hex was built from it. Rebuild it with 'seipolku build x.model",
     );
+    fs::rename(folder.0.join("x.model"), folder.0.join("gone.model")).unwrap();
+    accepted_alone(&folder);
+    fs::rename(folder.0.join("gone.model"), folder.0.join("x.model")).unwrap();
     fs::remove_file(folder.0.join("part.aut")).unwrap();
+    accepted_alone(&folder);
+}
+
+fn accepted_alone(folder: &Folder) {
     folder.done(&["show", "x.hex"]);
+    assert!(folder.run(&["check", "x.hex"]).err.contains("which is not there"));
 }
 
 /// A source that is gone or was moved tells nothing; `check` says so.
