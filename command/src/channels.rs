@@ -5,7 +5,6 @@ use crate::names::{Channel, Names};
 use crate::outcome::{fail, Failure};
 
 /// What a comparison of two models takes a channel by.
-#[derive(Default)]
 pub struct Basis {
     /// Both models name their channels, and mean the same.
     pub named: bool,

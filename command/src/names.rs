@@ -124,11 +124,7 @@ impl Names {
         } else if entry.head("text", 2) {
             self.origin.text.replace(entry.digest_at(1)?).is_none()
         } else if entry.head("source", 4) {
-            let read =
-                Read { kind: entry.kind_at(1)?, file: entry.name_at(2)?.into(), digest: entry.digest_at(3)? };
-            let fresh = self.origin.sources.iter().all(|s| s.file != read.file);
-            self.origin.sources.push(read);
-            fresh
+            self.source_entry(entry)?
         } else {
             let forms =
                 "'channel NUMBER NAME', 'gate NUMBER NAME', 'process LINE NAME', 'state LINE NUMBER NAME', \
@@ -171,6 +167,13 @@ impl Names {
         }
         let known = self.channels.values().any(|c| c.name == name);
         Ok(!known && self.channels.insert(number, Channel { name, gate }).is_none())
+    }
+
+    fn source_entry(&mut self, entry: &Entry) -> Result<bool, Misplaced> {
+        let (kind, file, digest) = (entry.kind_at(1)?, entry.name_at(2)?.into(), entry.digest_at(3)?);
+        let known = self.origin.sources.iter().any(|read| read.file == file);
+        self.origin.sources.push(Read { kind, file, digest });
+        Ok(!known)
     }
 
     fn state_entry(&mut self, entry: &Entry) -> Result<bool, Misplaced> {

@@ -140,6 +140,21 @@ fn name_tables() {
     says("gate 1 \"a!\"\n", "line 1, column 8: a gate can't have the name i or tau");
 }
 
+/// A gate of the table on which the model has inputs, in a leaf or by relabelling.
+#[test]
+fn gates_with_inputs() {
+    for text in ["000102000301\n", "000102000501\n0104000201\n"] {
+        let folder = Folder::new();
+        folder.write("m.hex", text);
+        folder.write("m.names", "# names\ngate 1 a\n");
+        let ran = folder.run(&["to-aut", "m.hex"]);
+        let expected = "m.names, line 2, column 1: a gate has no inputs, and the model has some on 1; write 'channel' for 'gate'.";
+        assert!(ran.status == 3 && ran.err.contains(expected), "{}", ran.err);
+        folder.write("m.names", "channel 1 a\n");
+        folder.done(&["to-aut", "m.hex"]);
+    }
+}
+
 #[test]
 fn words() {
     let folder = Folder::new();

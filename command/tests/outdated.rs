@@ -104,6 +104,7 @@ fn changed_text() {
         &folder,
         "x.hex is not the text that was built from x.model. Rebuild it with 'seipolku build x.model",
     );
+    accepted_without(&folder, "x.model");
     folder.write("x.names", folder.read("x.names").replace("text ", "# ").replace("source ", "# "));
     folder.done(&["show", "x.hex"]);
 }
@@ -138,8 +139,17 @@ fn parts() {
         &folder,
         "part.aut has changed since x.hex was built from it. Rebuild it with 'seipolku build x.model",
     );
-    fs::remove_file(folder.0.join("part.aut")).unwrap();
+    accepted_without(&folder, "x.model");
+    accepted_without(&folder, "part.aut");
+}
+
+/// The text is accepted while a file that it was built from is away.
+fn accepted_without(folder: &Folder, source: &str) {
+    let (here, away) = (folder.0.join(source), folder.0.join("away"));
+    fs::rename(&here, &away).unwrap();
     folder.done(&["show", "x.hex"]);
+    assert!(folder.run(&["check", "x.hex"]).err.contains("which is not there"));
+    fs::rename(&away, &here).unwrap();
 }
 
 /// A source that is gone or was moved tells nothing; `check` says so.

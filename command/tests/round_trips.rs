@@ -231,7 +231,7 @@ fn models_as_aut() {
         folder.done(&["build", "named.model"]);
         folder.done(&["to-aut", "named.hex", "--out", "two.aut"]);
         let converted = folder.run(&["from-aut", "two.aut", "--names", "named.names"]);
-        if converted.status == 2 {
+        if converted.status != 0 {
             assert!(converted.err.contains("at most"), "{}", converted.err);
             continue;
         }
