@@ -1,6 +1,8 @@
 //! The words of the command line: files, options with a value, flags.
 
-use crate::outcome::{fail, Failure};
+use crate::frames::MOST_LINES;
+use crate::outcome::{fail, grouped, Failure};
+use crate::proved::ENTRIES;
 use std::ffi::{OsStr, OsString};
 use std::path::{Path, PathBuf};
 
@@ -82,8 +84,8 @@ impl Given {
         match spelled.parse() {
             Ok(number) => Ok(Some(number)),
             Err(_) => fail(format!(
-                "{name} takes a whole number from 0 to {}, not '{}'.",
-                u64::MAX,
+                "{name} takes a whole number from {}, not '{}'.",
+                range(name),
                 value.to_string_lossy()
             )),
         }
@@ -113,6 +115,15 @@ impl Given {
     fn wrong_files<T>(&self, wanted: &str) -> Result<T, Failure> {
         let found = self.files.len();
         fail(format!("{} takes {wanted}; {found} given. {}.", self.command, capital(&see_help(self.command))))
+    }
+}
+
+/// The numbers that an option takes.
+fn range(option: &str) -> String {
+    match option {
+        "--nodes" => format!("2 to {}", grouped(ENTRIES)),
+        "--line" => format!("0 to {}", MOST_LINES - 1),
+        _ => format!("0 to {}", grouped(u64::MAX)),
     }
 }
 

@@ -4,6 +4,7 @@ use crate::frames::{Frame, Model, Triple, MOST_BYTES, MOST_LINES, MOST_STATES, M
 use crate::names::Names;
 use crate::numbering::Numbering;
 use crate::outcome::{misplaced, Misplaced};
+use crate::sorts::{self, Sort};
 use crate::source::{Act, Body, Declared, Definition, Named, Source, Step};
 use std::collections::BTreeMap;
 
@@ -33,7 +34,7 @@ pub fn assemble(source: &Source, numbering: &Numbering) -> Assembled<Built> {
     for Declared { channel, gate, .. } in &source.channels {
         declared.insert(&channel.name, *gate);
     }
-    let mut assembler = Assembler { declared, numbering, built: Built::default() };
+    let mut assembler = Assembler { declared, numbering, built: Built::default(), sorts: Vec::new() };
     for definition in &source.definitions {
         assembler.define(definition)?;
     }
@@ -48,6 +49,8 @@ struct Assembler<'a> {
     declared: BTreeMap<&'a str, bool>,
     numbering: &'a Numbering,
     built: Built,
+    /// The actions of the lines so far.
+    sorts: Vec<Sort>,
 }
 
 impl Assembler<'_> {
@@ -79,9 +82,32 @@ impl Assembler<'_> {
             let sentence = format!("this definition makes line {number}, but a model has {MOST_LINES} lines, 0 to 63; use fewer.");
             return misplaced(name.line, name.column, sentence);
         }
+        self.sorts.push(sorts::one(&frame, &self.sorts));
+        self.gates_without_inputs(name)?;
         self.built.model.frames.push(frame);
         self.built.origins.push(name.line);
         Ok(number as u8)
+    }
+
+    /// A gate's name stands without a direction, so that an input on it could not be told from an output.
+    fn gates_without_inputs(&self, name: &Named) -> Assembled<()> {
+        let number = |gate: &&str| self.numbering.number(gate);
+        let inputs = |gate: &&str| number(gate).is_some_and(|n| self.has_input(n));
+        let gate = self.declared.iter().filter(|(_, gate)| **gate).map(|(name, _)| *name).find(inputs);
+        match gate {
+            None => Ok(()),
+            Some(gate) => {
+                let sentence = format!(
+                    "in '{}' the gate '{gate}' gets inputs by relabelling, and a gate has none; declare it with 'channels'.",
+                    name.name
+                );
+                misplaced(name.line, name.column, sentence)
+            }
+        }
+    }
+
+    fn has_input(&self, channel: u8) -> bool {
+        self.sorts.last().is_some_and(|sort| sort.contains(&(2 * channel + 1)))
     }
 
     fn process(&self, named: &Named) -> Assembled<u8> {
@@ -208,6 +234,13 @@ impl Assembler<'_> {
         match act {
             Act::Tau => Ok(0),
             Act::Output(channel) => Ok(2 * self.channel(channel)?),
+            Act::Input(channel) if self.declared.get(&channel.name[..]) == Some(&true) => {
+                let sentence = format!(
+                    "'{}' is a gate, and a gate has no inputs; declare it with 'channels', or leave out 'in'.",
+                    channel.name
+                );
+                misplaced(channel.line, channel.column, sentence)
+            }
             Act::Input(channel) => Ok(2 * self.channel(channel)? + 1),
             Act::Gate(channel) => {
                 let number = self.channel(channel)?;

@@ -1,6 +1,6 @@
 //! Aldebaran files (.aut): reading and writing.
 
-use crate::outcome::{misplaced, Misplaced};
+use crate::outcome::{counted, misplaced, Misplaced};
 
 #[derive(Clone, Debug, PartialEq, Eq, PartialOrd, Ord)]
 pub enum Label {
@@ -73,8 +73,9 @@ pub fn parse(text: &str) -> Result<Aut, Misplaced> {
     }
     if transitions.len() != announced {
         let found = transitions.len();
+        let follow = if found == 1 { "follows" } else { "follow" };
         let sentence =
-            format!("the header says TRANSITIONS = {announced}, and {found} follow; correct the number or add the missing lines.");
+            format!("the header says TRANSITIONS = {announced}, and {found} {follow}; correct the number or add the missing lines.");
         return misplaced(index + 1, column(line, announced_part(line)), sentence);
     }
     if first >= states {
@@ -94,7 +95,9 @@ fn header(number: usize, line: &str) -> Result<(usize, usize, usize), Misplaced>
     };
     let parts: Vec<&str> = inner.split(',').collect();
     let [first, count, states] = parts[..] else {
-        return misplaced(number, column(line, inner), format!("{HEADER}; here are {} parts.", parts.len()));
+        let found = counted(parts.len() as u64, "part");
+        let are = if parts.len() == 1 { "is" } else { "are" };
+        return misplaced(number, column(line, inner), format!("{HEADER}; here {are} {found}."));
     };
     Ok((
         self::number(number, line, first)?,
@@ -140,7 +143,10 @@ fn transition(number: usize, line: &str, states: usize) -> Result<(Transition, u
 fn state(number: usize, line: &str, part: &str, states: usize) -> Result<usize, Misplaced> {
     let state = self::number(number, line, part)?;
     if state >= states {
-        let sentence = format!("there is no state {state}: the header says {states} states, counted from 0. Correct one of them.");
+        let states = counted(states as u64, "state");
+        let sentence = format!(
+            "there is no state {state}: the header says {states}, counted from 0. Correct one of them."
+        );
         return misplaced(number, column(line, part.trim()), sentence);
     }
     Ok(state)
@@ -172,9 +178,7 @@ pub fn print(aut: &Aut, internal: &str) -> String {
             Label::Internal => internal.to_string(),
             Label::Output(name) => format!("\"{name}!\""),
             Label::Input(name) => format!("\"{name}?\""),
-            Label::Gate(name) if Label::parse(name) == Ok(Label::Gate(name.clone())) => format!("\"{name}\""),
-            // Without its mark this name would be read as something else.
-            Label::Gate(name) => format!("\"{name}!\""),
+            Label::Gate(name) => format!("\"{name}\""),
         };
         text += &format!("({from}, {label}, {to})\n");
     }

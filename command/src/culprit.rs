@@ -65,7 +65,11 @@ fn kind(bytes: &[u8]) -> Option<Culprit> {
     culprit(
         4,
         (2 * body).max(1),
-        format!("{wants}; here are {} after the kind", counted(body as u64, "byte")),
+        format!(
+            "{wants}; here {} {} after the kind",
+            if body == 1 { "is" } else { "are" },
+            counted(body as u64, "byte")
+        ),
     )
 }
 
@@ -112,8 +116,10 @@ fn wrong(role: Role, byte: u8, number: u64, bytes: &[u8]) -> Option<String> {
         Role::Operand => u64::from(byte) >= number,
     };
     let words = match role {
-        Role::Count => format!("{byte} states; a leaf has 1 to {MOST_STATES}"),
-        Role::State => format!("state {byte}; this leaf has {states} states, counted from 0"),
+        Role::Count => format!("{}; a leaf has 1 to {MOST_STATES}", counted(u64::from(byte), "state")),
+        Role::State => {
+            format!("state {byte}; this leaf has {}, counted from 0", counted(u64::from(states), "state"))
+        }
         Role::Action => format!(
             "action {byte}; actions are 0 (tau), 2c (output) and 2c + 1 (input) for a channel c from 1 to 31"
         ),

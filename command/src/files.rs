@@ -3,7 +3,7 @@
 use crate::outcome::{fail, Failure, Misplaced};
 use std::fs::{self, File};
 use std::io::Read;
-use std::path::{Path, PathBuf};
+use std::path::{Component, Path, PathBuf};
 
 /// More than any model in any of the forms needs; a model text has at most 32,704 bytes.
 const MOST_BYTES: u64 = 1 << 20;
@@ -29,9 +29,13 @@ pub fn read(path: &Path) -> Result<Vec<u8>, Failure> {
     Ok(bytes)
 }
 
-/// A file of UTF-8 text, without the mark that some editors put before it.
+/// A file of UTF-8 text.
 pub fn read_text(path: &Path) -> Result<String, Failure> {
-    let mut bytes = read(path)?;
+    text_of(path, read(path)?)
+}
+
+/// The bytes of a file as UTF-8 text, without the mark that some editors put before it.
+pub fn text_of(path: &Path, mut bytes: Vec<u8>) -> Result<String, Failure> {
     if bytes.starts_with(MARK) {
         bytes.drain(..MARK.len());
     }
@@ -61,6 +65,46 @@ pub fn beside(path: &Path, ending: &str, folder: Option<&Path>) -> PathBuf {
         (Some(folder), Some(name)) => folder.join(name),
         _ => renamed,
     }
+}
+
+/// The folder that a file is in.
+pub fn folder(path: &Path) -> &Path {
+    match path.parent() {
+        Some(parent) if parent != Path::new("") => parent,
+        _ => Path::new("."),
+    }
+}
+
+/// The way from a folder to a file, if it can be written as text.
+pub fn relative(from: &Path, file: &Path) -> Option<String> {
+    let from = from.canonicalize().ok()?;
+    let to = folder(file).canonicalize().ok()?;
+    let shared = from.components().zip(to.components()).take_while(|(a, b)| a == b).count();
+    let up = from.components().skip(shared).map(|_| Component::ParentDir);
+    let way: PathBuf = up.chain(to.components().skip(shared)).collect();
+    let way = way.join(file.file_name()?);
+    way.to_str().filter(|text| !text.contains(char::is_control)).map(str::to_string)
+}
+
+/// The same file without steps up, where that leads to it.
+pub fn straight(path: PathBuf) -> PathBuf {
+    let mut shorter = PathBuf::new();
+    for part in path.components() {
+        let up = part == Component::ParentDir
+            && matches!(shorter.components().next_back(), Some(Component::Normal(_)));
+        if !up || !shorter.pop() {
+            shorter.push(part);
+        }
+    }
+    match (path.canonicalize(), shorter.canonicalize()) {
+        (Ok(one), Ok(other)) if one == other => shorter,
+        _ => path,
+    }
+}
+
+/// The file's last part.
+pub fn name(path: &Path) -> String {
+    path.file_name().map(|n| n.to_string_lossy().into_owned()).unwrap_or_default()
 }
 
 /// The file's name without folder and ending.

@@ -16,11 +16,16 @@ All answers about models come from a library whose code is proved.
 'seipolku COMMAND --help' says more and gives examples. MODEL, LEFT and RIGHT are model texts (.hex); names of channels, processes and
 states are read from the file of the same name with the ending .names, if there is one. docs/TUTORIAL.md is a first walk.
 
-Exit status: 0 done, or the models are equal; 1 they are different; 2 refused, or the command could not be carried out.
+A text whose .model or .aut file has changed since it was built is refused, with the command that builds it anew. No command writes over
+a file that it reads. In messages, lines and columns of a file are counted from 1, as editors do; the lines of a model have numbers from
+0, as in --line K.
+
+Exit status: 0 done, or the models are equal; 1 they are different; 2 the library refuses a model or a comparison; 3 wrong words or
+files: nothing was asked of the library.
 ";
 
 const COMPARE: &str = "\
-seipolku compare LEFT RIGHT [--mode strong|weak|both] [--limit N] [--nodes N] [--quiet] [--json]
+seipolku compare LEFT RIGHT [--mode strong|weak|both] [--limit N] [--nodes N] [--by-number] [--quiet] [--json]
 
 Compares two model texts and prints a line for each mode: verdict, rounds, nodes, time. A refusal is explained below the lines, with its
 number, side and line, the line itself and what to do.
@@ -28,12 +33,16 @@ number, side and line, the line itself and what to do.
   --mode strong|weak|both   strong: a step is answered by one step. weak: internal steps are not counted. Default: both.
   --limit N                 the most rounds. Default: 1,000,000.
   --nodes N                 the table's length, 2 to 1,048,576 entries, of which N - 2 hold nodes. Default: 1,048,576.
-  --quiet                   print no verdict: the exit status says it. Refusals go to standard error.
-  --json                    print one JSON object.
+  --by-number               compare though the name tables disagree; the verdict says 'channels by number'.
+  --quiet                   print no verdict: the exit status says it. Refusals, errors and notes go to standard error.
+  --json                    print one JSON object, whatever happens.
 
-Channels are compared by number. Where both models have a name table and these disagree, a note says so.
+Channels are compared by number. Two models whose name tables give a number two names or a name two numbers, or have a name as a gate on
+one side and as a channel with directions on the other, are not compared, unless --by-number is given. If a model does not name its
+channels and the other does, the verdict says 'channels by number'.
 On a terminal the elapsed time is shown while a comparison runs.
-Exit status: 0 equal, 1 different, 2 refused; of two modes the worse.
+Exit status: 0 equal, 1 different, 2 refused by the library (of two modes the worst); 3 wrong words or files, name tables that disagree,
+or a text that is older than its source.
 
 Examples:
   seipolku compare models/shuttle_one_faulty.hex models/shuttle_one_service.hex
@@ -42,7 +51,7 @@ Examples:
 ";
 
 const PAIRS: &str = "\
-seipolku pairs LEFT RIGHT [--mode strong|weak] [--reachable] [--most N] [--limit N] [--nodes N]
+seipolku pairs LEFT RIGHT [--mode strong|weak] [--reachable] [--most N] [--limit N] [--nodes N] [--by-number]
 
 After 'equal', lists every pair of the largest bisimulation between the two models' states, each state leaf by leaf. All states count,
 reachable or not.
@@ -50,9 +59,9 @@ reachable or not.
   --mode strong|weak   Default: weak.
   --reachable          only states that can be reached from the starts.
   --most N             the most pairs to ask for. Default: 1,000,000.
-  --limit N, --nodes N as for compare.
+  --limit N, --nodes N, --by-number as for compare.
 
-Exit status: 0 equal, 1 different, 2 refused or too large to list.
+Exit status: 0 equal, 1 different, 2 refused by the library; 3 as for compare, or too large to list.
 
 Examples:
   seipolku pairs models/shuttle_one.hex models/shuttle_one_service.hex
@@ -95,7 +104,7 @@ const CHECK: &str = "\
 seipolku check MODEL
 
 Says whether the library accepts a model text: then its lines, leaf uses, bits and states, else the refusal in words with the line.
-Exit status: 0 accepted, 2 refused.
+Exit status: 0 accepted, 2 refused, 3 a file can't be read or the text is older than its source.
 
 Example:
   seipolku check models/shuttle_one.hex
@@ -104,8 +113,9 @@ Example:
 const FROM_AUT: &str = "\
 seipolku from-aut FILE.. [--into FOLDER] [--names TABLE]
 
-Turns each Aldebaran file X.aut into a model text X.hex of one leaf, and a table of names X.names, both written over if they are there.
-All files given together get one numbering of channels, so that they can be compared.
+Turns each Aldebaran file X.aut into a model text X.hex of one leaf, and a table of names X.names, both written over if they are there
+and not read. All files given together get one numbering of channels, so that they can be compared. The table also has a digest of X.aut,
+so that an outdated X.hex is known.
 
 Labels, with or without quotes: i or tau is an internal step; NAME! or !NAME an output, NAME? or ?NAME an input; NAME alone is a gate,
 that is, an output that is written back without the mark. A first state other than 0 changes places with state 0. A leaf has at most 64
@@ -123,7 +133,7 @@ const TO_AUT: &str = "\
 seipolku to-aut MODEL [--line K] [--most N] [--tau] [--out FILE]
 
 Writes the part of a model that can be reached from its start as an Aldebaran file, with the names of its table. The states of a model of
-one leaf that came from an .aut file get their old numbers back.
+one leaf that came from an .aut file get their old numbers back. from-aut reads it back, up to 64 states and 84 transitions.
 
   --line K    the process of line K in place of the last one.
   --most N    the most states. Default: 1,000.
@@ -139,12 +149,13 @@ const BUILD: &str = "\
 seipolku build FILE.. [--into FOLDER] [--names TABLE]
 seipolku build --text MODEL [--out FILE]
 
-Turns each file X.model of the readable form into a model text X.hex and a table of names X.names, both written over if they are there.
+Turns each file X.model of the readable form into a model text X.hex and a table of names X.names, both written over if they are there and
+not read. The table also has digests of X.model and of the .aut files that it names, so that an outdated X.hex is known.
 With --text it goes back: the readable form of a model text with its names. Back and forth gives the same text and the same names.
 
   # A remark. A name of other characters than letters, digits, _ . ' stands in quotes.
   channels move, done, drop, up          numbers 1, 2, .. in this order, or one's own: channels drop = 7
-  gates put, get                         channels whose outputs are written without 'out'
+  gates put, get                         channels without inputs, whose outputs are written without 'out'
 
   leaf journal                           or: leaf journal from \"journal.aut\"
     states empty, pending                the first one is the start; without this line, as the steps name them

@@ -25,3 +25,14 @@ pub fn object(members: &[(&str, String)]) -> String {
 pub fn array(values: &[String]) -> String {
     format!("[{}]", values.join(", "))
 }
+
+/// The object that stands for an answer where there is none.
+pub fn error(sentence: &str, status: u8) -> String {
+    let members = [
+        ("error", string(sentence)),
+        ("answers", array(&[])),
+        ("notes", array(&[])),
+        ("status", status.to_string()),
+    ];
+    object(&members) + "\n"
+}

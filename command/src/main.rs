@@ -3,6 +3,7 @@
 mod arguments;
 mod assemble;
 mod aut;
+mod channels;
 mod commands;
 mod culprit;
 mod dot;
@@ -14,12 +15,16 @@ mod json;
 mod load;
 mod names;
 mod numbering;
+mod origin;
 mod outcome;
+mod output;
 mod progress;
 mod proved;
 mod reach;
 mod readable;
 mod refusals;
+mod sha256;
+mod sorts;
 mod source;
 mod space;
 mod syntax;
@@ -28,7 +33,7 @@ mod words;
 
 use arguments::{Form, Given};
 use commands::{build, check, compare, from_aut, pairs, show, steps, to_aut};
-use outcome::{fail, Answer, Outcome, REFUSED};
+use outcome::{fail, Answer, Outcome, Stopped, FAILED};
 use std::ffi::OsString;
 use std::io::{ErrorKind, Write};
 use std::process::ExitCode;
@@ -48,21 +53,30 @@ const COMMANDS: [(Form, Run); 8] = [
 
 fn main() -> ExitCode {
     let words: Vec<OsString> = std::env::args_os().skip(1).collect();
-    let mut outcome = answer(&words).unwrap_or_else(|failure| Outcome {
-        text: String::new(),
-        notes: vec![format!("seipolku: {failure}")],
-        status: REFUSED,
-    });
+    let mut outcome = answer(&words).unwrap_or_else(|stopped| without_answer(&stopped, &words));
     if let Err(error) = print(&outcome.text) {
         outcome
             .notes
             .push(format!("seipolku: the answer can't be written: {error}. Make room, or write elsewhere."));
-        outcome.status = REFUSED;
+        outcome.status = FAILED;
     }
     for note in &outcome.notes {
         let _ = writeln!(std::io::stderr(), "{}", note.trim_end());
     }
     ExitCode::from(outcome.status)
+}
+
+/// What is said where there is no answer: a sentence on standard error, or with --json an object on standard output.
+fn without_answer(stopped: &Stopped, words: &[OsString]) -> Outcome {
+    let options = || words.iter().take_while(|w| *w != "--").filter_map(|w| w.to_str());
+    let given = |flag: &str| options().any(|w| w.split('=').next() == Some(flag));
+    let text =
+        if given("--json") { json::error(stopped.sentence(), stopped.status()) } else { String::new() };
+    let mut notes = Vec::new();
+    if text.is_empty() || given("--quiet") {
+        notes.push(format!("seipolku: {}", stopped.sentence()));
+    }
+    Outcome { text, notes, status: stopped.status() }
 }
 
 /// A reader that has gone away, as `head` does, is no error.

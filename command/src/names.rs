@@ -1,7 +1,11 @@
 //! The name table of a model: names of channels, processes and states, kept beside the hexadecimal text.
 
+use crate::aut::Label;
 use crate::frames::{Frame, Model, MOST_CHANNEL};
+use crate::origin::{Kind, Origin, Read};
 use crate::outcome::{misplaced, Misplaced};
+use crate::sha256;
+use crate::sorts;
 use crate::tokens::{tokens, Placed};
 use crate::words::spelled;
 use std::collections::{BTreeMap, BTreeSet};
@@ -18,6 +22,18 @@ pub struct Names {
     pub channels: BTreeMap<u8, Channel>,
     pub processes: BTreeMap<usize, String>,
     pub states: BTreeMap<(usize, usize), String>,
+    pub origin: Origin,
+}
+
+/// Why a channel can't have the name: an .aut file, which has no escapes, would give another one back.
+pub fn unfit(name: &str, gate: bool) -> Option<&'static str> {
+    if name.trim() != name {
+        return Some("a channel's name can't start or end with a space; leave it out.");
+    }
+    if gate && Label::parse(name) != Ok(Label::Gate(name.to_string())) {
+        return Some("a gate can't have the name i or tau, nor one that starts or ends with ! or ?; choose another name.");
+    }
+    None
 }
 
 impl Names {
@@ -68,6 +84,7 @@ impl Names {
     /// The table as a file.
     pub fn print(&self, of: &str) -> String {
         let mut text = format!("# The names of the numbers in {}.\n", of.replace(char::is_control, "?"));
+        text += &self.origin.print();
         for (number, channel) in &self.channels {
             let head = if channel.gate { "gate" } else { "channel" };
             text += &format!("{head} {number} {}\n", spelled(&channel.name));
@@ -104,9 +121,14 @@ impl Names {
             !self.processes.values().any(|n| *n == name) && self.processes.insert(line, name).is_none()
         } else if entry.head("state", 4) {
             self.state_entry(entry)?
+        } else if entry.head("text", 2) {
+            self.origin.text.replace(entry.digest_at(1)?).is_none()
+        } else if entry.head("source", 4) {
+            self.source_entry(entry)?
         } else {
             let forms =
-                "'channel NUMBER NAME', 'gate NUMBER NAME', 'process LINE NAME' or 'state LINE NUMBER NAME'";
+                "'channel NUMBER NAME', 'gate NUMBER NAME', 'process LINE NAME', 'state LINE NUMBER NAME', \
+                         'text DIGEST' or 'source KIND FILE DIGEST'";
             return misplaced(
                 entry.number,
                 column,
@@ -134,8 +156,24 @@ impl Names {
         };
         let name = entry.name_at(2)?;
         let gate = entry.words[0].is("gate");
+        if let Some(sentence) = unfit(&name, gate) {
+            return misplaced(entry.number, entry.words[2].column, sentence);
+        }
+        if gate && entry.model.is_some_and(|model| sorts::inputs(model).contains(&number)) {
+            let sentence = format!(
+                "a gate has no inputs, and the model has some on {number}; write 'channel' for 'gate'."
+            );
+            return misplaced(entry.number, entry.words[0].column, sentence);
+        }
         let known = self.channels.values().any(|c| c.name == name);
         Ok(!known && self.channels.insert(number, Channel { name, gate }).is_none())
+    }
+
+    fn source_entry(&mut self, entry: &Entry) -> Result<bool, Misplaced> {
+        let (kind, file, digest) = (entry.kind_at(1)?, entry.name_at(2)?.into(), entry.digest_at(3)?);
+        let known = self.origin.sources.iter().any(|read| read.file == file);
+        self.origin.sources.push(Read { kind, file, digest });
+        Ok(!known)
     }
 
     fn state_entry(&mut self, entry: &Entry) -> Result<bool, Misplaced> {
@@ -170,26 +208,28 @@ impl Entry<'_> {
     }
 
     fn number_at(&self, index: usize) -> Result<usize, Misplaced> {
-        let found = self.words[index].name().and_then(|w| w.parse::<u16>().ok());
-        match found {
-            Some(number) => Ok(usize::from(number)),
-            None => misplaced(
-                self.number,
-                self.words[index].column,
-                "a number is due here; write one in decimal digits.",
-            ),
-        }
+        let number = self.words[index].name().and_then(|w| w.parse::<u16>().ok());
+        self.due(index, number.map(usize::from), "a number is due here; write one in decimal digits.")
     }
 
     fn name_at(&self, index: usize) -> Result<String, Misplaced> {
-        match self.words[index].name() {
-            Some(name) => Ok(name.to_string()),
-            None => misplaced(
-                self.number,
-                self.words[index].column,
-                "a name is due here; write one, in quotes if need be.",
-            ),
-        }
+        let name = self.words[index].name().map(str::to_string);
+        self.due(index, name, "a name is due here; write one, in quotes if need be.")
+    }
+
+    fn digest_at(&self, index: usize) -> Result<String, Misplaced> {
+        let digest = self.words[index].name().filter(|word| sha256::is_digest(word)).map(str::to_string);
+        self.due(index, digest, "a digest of 64 hexadecimal digits is due here; build the text anew.")
+    }
+
+    fn kind_at(&self, index: usize) -> Result<Kind, Misplaced> {
+        let kind = self.words[index].name().and_then(Kind::of);
+        self.due(index, kind, "the kind of a source is model or aut; write one of these.")
+    }
+
+    /// What a word was read as, or what is due in its place.
+    fn due<T>(&self, index: usize, read: Option<T>, sentence: &str) -> Result<T, Misplaced> {
+        read.ok_or_else(|| Misplaced::new(self.number, self.words[index].column, sentence))
     }
 
     fn wants_line(&self, line: usize) -> Result<(), Misplaced> {

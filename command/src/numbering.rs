@@ -1,7 +1,7 @@
 //! Numbers for channel names, one numbering for all files that are built together.
 
 use crate::frames::MOST_CHANNEL;
-use crate::names::{Channel, Names};
+use crate::names::{unfit, Channel, Names};
 
 #[derive(Default)]
 struct Entry {
@@ -29,6 +29,9 @@ impl Numbering {
 
     /// Notes that a name is used, as a gate or as a channel with directions.
     pub fn declare(&mut self, name: &str, gate: bool, number: Option<u8>) -> Result<(), String> {
+        if let Some(sentence) = unfit(name, gate) {
+            return Err(sentence.to_string());
+        }
         if let (Some(number), Some(other)) = (number, self.entries.iter().find(|e| e.number == number)) {
             if other.name != name {
                 return Err(format!(
@@ -75,13 +78,18 @@ impl Numbering {
         Ok(&mut self.entries[index])
     }
 
-    /// Gives the least free numbers to the names that have none, in their order; there are enough for all names.
+    /// Gives numbers to the names that have none, in their order: first to c1 to c31, as channels without a name are written, their
+    /// own one if it is free, then to the others the least free one. There are enough for all names.
     pub fn settle(&mut self) {
+        self.fill(|name, number| name == format!("c{number}"));
+        self.fill(|_, _| true);
+    }
+
+    fn fill(&mut self, fits: impl Fn(&str, u8) -> bool) {
         for index in 0..self.entries.len() {
-            if self.entries[index].number.is_none() {
-                let free = |n: &u8| self.entries.iter().all(|e| e.number != Some(*n));
-                self.entries[index].number = (1..=MOST_CHANNEL).find(free);
-            }
+            let Entry { name, number: None, .. } = &self.entries[index] else { continue };
+            let free = |n: &u8| fits(name, *n) && self.entries.iter().all(|e| e.number != Some(*n));
+            self.entries[index].number = (1..=MOST_CHANNEL).find(free);
         }
     }
 

@@ -4,7 +4,10 @@ use std::fmt;
 
 pub const EQUAL: u8 = 0;
 pub const DIFFERENT: u8 = 1;
+/// The library refuses a model or a comparison.
 pub const REFUSED: u8 = 2;
+/// The library is not asked: wrong words or files.
+pub const FAILED: u8 = 3;
 
 /// Text for standard output, remarks for standard error, and the exit status.
 #[derive(Debug, Default)]
@@ -20,7 +23,7 @@ impl Outcome {
     }
 }
 
-/// A sentence that says what is wrong and what to do.
+/// A sentence that says what is wrong with the words or files given, and what to do.
 #[derive(Debug)]
 pub struct Failure(pub String);
 
@@ -30,13 +33,41 @@ impl fmt::Display for Failure {
     }
 }
 
-pub type Answer = Result<Outcome, Failure>;
-
-pub fn fail<T>(sentence: impl Into<String>) -> Result<T, Failure> {
-    Err(Failure(sentence.into()))
+/// Why a subcommand has no answer: wrong words or files, or the library's refusal in words.
+#[derive(Debug)]
+pub enum Stopped {
+    Failed(Failure),
+    Refused(String),
 }
 
-/// Something wrong at a place of a file; line and column are counted from 1.
+impl From<Failure> for Stopped {
+    fn from(failure: Failure) -> Stopped {
+        Stopped::Failed(failure)
+    }
+}
+
+impl Stopped {
+    pub fn sentence(&self) -> &str {
+        match self {
+            Stopped::Failed(Failure(sentence)) | Stopped::Refused(sentence) => sentence,
+        }
+    }
+
+    pub fn status(&self) -> u8 {
+        match self {
+            Stopped::Failed(_) => FAILED,
+            Stopped::Refused(_) => REFUSED,
+        }
+    }
+}
+
+pub type Answer = Result<Outcome, Stopped>;
+
+pub fn fail<T, E: From<Failure>>(sentence: impl Into<String>) -> Result<T, E> {
+    Err(Failure(sentence.into()).into())
+}
+
+/// Something wrong at a place of a file; line and column are counted from 1, as editors do.
 #[derive(Debug, Clone, PartialEq, Eq)]
 pub struct Misplaced {
     pub line: usize,

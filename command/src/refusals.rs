@@ -1,7 +1,8 @@
 //! Refusals in words: number, side, line, the rule, the line itself and what to do.
 
-use crate::culprit;
-use crate::outcome::grouped;
+use crate::culprit::{self, Culprit};
+use crate::files;
+use crate::outcome::{counted, grouped};
 use seipolku::{Refusal, Side, MAX_TABLE};
 use std::path::Path;
 
@@ -49,33 +50,54 @@ pub fn side(refusal: &Refusal) -> &'static str {
     }
 }
 
-/// The refusal of a comparison, several lines long.
-pub fn of_comparison(refusal: &Refusal, call: &Call) -> String {
-    let head = match refusal.side {
-        Side::Left => {
-            format!("Refusal {}, left model, line {} (counted from 0)", refusal.fault.number(), refusal.line)
-        }
-        Side::Right => {
-            format!("Refusal {}, right model, line {} (counted from 0)", refusal.fault.number(), refusal.line)
-        }
-        Side::Neither => format!("Refusal {}, neither model", refusal.fault.number()),
+/// The refusal in a verdict's line.
+pub fn short(refusal: &Refusal) -> String {
+    let number = refusal.fault.number();
+    let words = match (refusal.side, number) {
+        (Side::Neither, 7) => "there is no such table".to_string(),
+        (Side::Neither, 8) => "the table is full".to_string(),
+        (Side::Neither, 9) => "the limit is reached".to_string(),
+        (Side::Neither, _) => rule(refusal).to_string(),
+        _ => format!("line {} of the {} model", refusal.line, side(refusal)),
     };
-    let detail = match (refusal.side, refusal.fault.number()) {
-        (Side::Left, _) => shown(refusal, call.files[0], call.texts[0]),
-        (Side::Right, _) => shown(refusal, call.files[1], call.texts[1]),
-        (_, 7) => format!("  The table's length is {}.\n", grouped(call.entries)),
-        (_, 8) => format!(
-            "  {} nodes fit into {} entries.\n",
-            grouped(call.entries.saturating_sub(2)),
-            grouped(call.entries)
-        ),
-        (_, 9) => format!("  The limit is {}.\n", grouped(call.limit)),
-        _ => String::new(),
-    };
-    format!("{head}: {}.\n{detail}What to do: {}.\n", rule(refusal), advice(refusal, call.entries))
+    format!("{number}, {words}")
 }
 
-fn advice(refusal: &Refusal, entries: u64) -> &'static str {
+/// The refusal of a comparison, several lines long.
+pub fn of_comparison(refusal: &Refusal, call: &Call) -> String {
+    let number = refusal.fault.number();
+    let (file, text) = match refusal.side {
+        Side::Neither => return of_neither(refusal, call),
+        Side::Left => (call.files[0], call.texts[0]),
+        Side::Right => (call.files[1], call.texts[1]),
+    };
+    format!(
+        "Refusal {number}, line {} of the {} model (counted from 0): {}.\n{}What to do: {}.\n",
+        refusal.line,
+        side(refusal),
+        rule(refusal),
+        shown(refusal, file, text),
+        advice(refusal, file, text)
+    )
+}
+
+fn of_neither(refusal: &Refusal, call: &Call) -> String {
+    let number = refusal.fault.number();
+    let entries = call.entries;
+    let detail = match number {
+        7 => format!("  The table's length is {}.\n", grouped(entries)),
+        8 => {
+            let room = entries.saturating_sub(2);
+            let fit = if room == 1 { "fits" } else { "fit" };
+            format!("  {} {fit} into {}.\n", counted(room, "node"), grouped(entries) + " entries")
+        }
+        9 => format!("  The limit is {}.\n", grouped(call.limit)),
+        _ => String::new(),
+    };
+    format!("Refusal {number}: {}.\n{detail}What to do: {}.\n", rule(refusal), table_advice(refusal, entries))
+}
+
+fn table_advice(refusal: &Refusal, entries: u64) -> &'static str {
     if refusal.fault.number() == 8 && entries >= MAX_TABLE as u64 {
         return "make the models smaller, with fewer states or fewer leaves; no table is larger than this one";
     }
@@ -90,30 +112,38 @@ pub fn of_text(refusal: &Refusal, file: &Path, text: &[u8]) -> String {
             "{}: refusal {number}: {}. What to do: {}.",
             file.display(),
             rule(refusal),
-            advice(refusal, MAX_TABLE as u64)
+            table_advice(refusal, MAX_TABLE as u64)
         );
     }
+    let column = offending(refusal, text).and_then(|(_, found)| found).map_or(1, |found| found.column + 1);
     format!(
-        "{}: refusal {number} at line {} (counted from 0): {}.\n{}What to do: {}.",
+        "{}, line {}, column {column}: refusal {number}, line {} of the model (counted from 0): {}.\n{}What to do: {}.",
         file.display(),
+        refusal.line + 1,
         refusal.line,
         rule(refusal),
         shown(refusal, file, text),
-        what_to_do(refusal)
+        advice(refusal, file, text)
     )
 }
 
 const MOST_SHOWN: usize = 100;
 
+/// The refused line and the part of it that is wrong; nothing for an empty text.
+fn offending<'a>(refusal: &Refusal, text: &'a [u8]) -> Option<(&'a [u8], Option<Culprit>)> {
+    let line = usize::try_from(refusal.line).ok().and_then(|n| text.split(|b| *b == b'\n').nth(n));
+    let line = line.filter(|_| !text.is_empty())?;
+    let newlines = text.iter().filter(|b| **b == b'\n').count() as u64;
+    let found = culprit::find(refusal.fault.number(), refusal.line, line, refusal.line < newlines);
+    Some((line, found))
+}
+
 /// The offending line with a mark below the part that is wrong.
 fn shown(refusal: &Refusal, file: &Path, text: &[u8]) -> String {
-    let line = usize::try_from(refusal.line).ok().and_then(|n| text.split(|b| *b == b'\n').nth(n));
-    let Some(line) = line.filter(|_| !text.is_empty()) else {
-        return format!("  {} is empty.\n{}", file.display(), hint(file, text));
+    let Some((line, found)) = offending(refusal, text) else {
+        return format!("  {} is empty.\n", file.display());
     };
-    let newlines = text.iter().filter(|b| **b == b'\n').count() as u64;
-    let label = format!("  {}, line {}: ", file.display(), refusal.line);
-    let found = culprit::find(refusal.fault.number(), refusal.line, line, refusal.line < newlines);
+    let label = format!("  {}, line {}: ", file.display(), refusal.line + 1);
     let from = found.as_ref().map_or(0, |c| c.column.saturating_sub(MOST_SHOWN / 2));
     let part = &line[from.min(line.len())..line.len().min(from + MOST_SHOWN)];
     let before = if from > 0 { ".." } else { "" };
@@ -127,26 +157,42 @@ fn shown(refusal: &Refusal, file: &Path, text: &[u8]) -> String {
             "^".repeat(culprit.length.clamp(1, MOST_SHOWN - (culprit.column - from).min(MOST_SHOWN - 1)));
         words += &format!("{blank}{marks} {}\n", culprit.words);
     }
-    words + &hint(file, text)
+    words
 }
 
-/// For files in another form.
-fn hint(file: &Path, text: &[u8]) -> String {
+/// What to do about a refused text; one in another form needs no correction.
+fn advice(refusal: &Refusal, file: &Path, text: &[u8]) -> String {
     let ending = file.extension().map(|e| e.to_string_lossy().into_owned()).unwrap_or_default();
-    let name = file.display();
-    if ending == "aut" || text.starts_with(b"des") {
-        return format!(
-            "  This looks like an .aut file: run 'seipolku from-aut {name}' and take the .hex file.\n"
-        );
-    }
-    if ending == "model"
-        || text.starts_with(b"channels")
-        || text.starts_with(b"leaf")
-        || text.starts_with(b"#")
-    {
-        return format!(
-            "  This looks like the readable form: run 'seipolku build {name}' and take the .hex file.\n"
-        );
-    }
-    String::new()
+    let renamed = |ending: &str| files::beside(file, ending, None);
+    let (form, command) = match (&ending[..], first_word(text)) {
+        ("names", _) | ("hex", "channel" | "gate" | "process" | "state" | "text" | "source") => {
+            return format!(
+                "this looks like a name table; give the model text that it belongs to, such as {}",
+                renamed("hex").display()
+            )
+        }
+        ("aut", _) | (_, "des") => ("aut", "from-aut"),
+        ("model", _) | (_, "channels" | "gates" | "leaf" | "#") => ("model", "build"),
+        _ => return what_to_do(refusal).to_string(),
+    };
+    let looks = if form == "aut" { "an .aut file" } else { "the readable form" };
+    let (rename, file) = match &ending[..] {
+        "hex" => (format!("rename it to {}, ", renamed(form).display()), renamed(form)),
+        _ => (String::new(), file.to_path_buf()),
+    };
+    format!(
+        "this looks like {looks}: {rename}run 'seipolku {command} {}' and take the .hex file",
+        file.display()
+    )
+}
+
+/// The letters at the start of the first line that is no remark, or a remark's sign.
+fn first_word(text: &[u8]) -> &str {
+    let start = |line: &'_ [u8]| line.iter().position(|b| !b.is_ascii_whitespace());
+    let mut lines = text.split(|b| *b == b'\n').filter_map(|line| Some(&line[start(line)?..]));
+    let Some(line) = lines.find(|line| !line.starts_with(b"#")) else {
+        return if text.starts_with(b"#") { "#" } else { "" };
+    };
+    let length = line.iter().take_while(|b| b.is_ascii_alphabetic()).count();
+    std::str::from_utf8(&line[..length]).unwrap_or("")
 }

@@ -1,6 +1,7 @@
 //! How names and actions are written.
 
 use crate::names::Names;
+use std::path::Path;
 
 /// A character of a name that needs no quotes.
 pub fn plain(c: char) -> bool {
@@ -18,6 +19,18 @@ pub fn spelled(name: &str) -> String {
 
 pub fn quoted(name: &str) -> String {
     format!("\"{}\"", name.replace('\\', "\\\\").replace('"', "\\\""))
+}
+
+/// A path as a word of a shell's command.
+pub fn for_shell(path: &Path) -> String {
+    let text = path.to_string_lossy();
+    let text = if text.starts_with('-') { format!("./{text}") } else { text.into_owned() };
+    if text.chars().all(|c| c.is_alphanumeric() || "_./+,:=@%-".contains(c)) {
+        return text;
+    }
+    let escaped: String =
+        text.chars().flat_map(|c| [Some('\\').filter(|_| "\"\\$`".contains(c)), Some(c)]).flatten().collect();
+    format!("\"{escaped}\"")
 }
 
 /// An action in the readable form: `tau`, `out a`, `in a`, or a gate's name alone.

@@ -32,6 +32,15 @@ const RUNS: &[&[&str]] = &[
     &["from-aut", "service.aut", "--names", "file.names"],
 ];
 
+/// A name table with a record of what its text was built from.
+const RECORD: &str = "\
+text e3b0c44298fc1c149afbf4c8996fb92427ae41e4649b934ca495991b7852b855
+source model file.model e3b0c44298fc1c149afbf4c8996fb92427ae41e4649b934ca495991b7852b855
+source aut \"../x/./file.aut\" e3b0c44298fc1c149afbf4c8996fb92427ae41e4649b934ca495991b7852b855
+source aut . e3b0c44298fc1c149afbf4c8996fb92427ae41e4649b934ca495991b7852b855
+channel 1 a
+";
+
 /// Random bytes, a beginning of a file, or a file with some bytes changed, taken out or put in.
 fn hostile(random: &mut Random, file: &[u8]) -> Vec<u8> {
     let mut bytes = file.to_vec();
@@ -63,7 +72,7 @@ fn change(random: &mut Random, bytes: &mut Vec<u8>, at: usize) {
 fn all_runs(folder: &Folder) {
     for words in RUNS {
         let ran = folder.run(words);
-        if ran.status == 2 {
+        if ran.status >= 2 {
             let said = format!("{}{}", ran.out, ran.err);
             assert!(said.trim_end().ends_with(['.', '}']), "{words:?}: no sentence: {said}");
         }
@@ -94,6 +103,9 @@ fn changed_files() {
         }
         if round % 2 == 0 {
             folder.write("file.hex", model(&mut random, 6).text);
+        }
+        if round % 3 == 0 {
+            folder.write("file.names", hostile(&mut random, RECORD.as_bytes()));
         }
         all_runs(&folder);
     }

@@ -8,7 +8,8 @@ fn says(name: &str, text: &str, words: &[&str], expected: &str) {
     let folder = Folder::new();
     folder.write(name, text);
     let ran = folder.run(words);
-    assert_eq!(ran.status, 2, "{text}");
+    let refused = expected.contains("refusal");
+    assert_eq!(ran.status, if refused { 2 } else { 3 }, "{text}");
     assert!(ran.err.contains(expected), "{text}\nsaid: {}\nnot: {expected}", ran.err);
 }
 
@@ -41,6 +42,20 @@ fn readable_form() {
     says("leaf a\n  states s extra\nleaf b c\n", "line 3, column 8: the line is complete");
     says("what is this\n", "line 1, column 1: a line is");
     says("leaf a from \"b.aut\"\n", "line 1, column 13: b.aut can't be read");
+    says(
+        "gates a\nleaf x\n  s -- in a --> s\n",
+        "line 3, column 11: 'a' is a gate, and a gate has no inputs",
+    );
+    says(
+        "gates a\nchannels b\nleaf x\n  s -- in b --> s\ny = relabel x b to a\n",
+        "line 5, column 1: in 'y' the gate 'a' gets inputs by relabelling",
+    );
+    says(
+        "channels \"a \"\nleaf x\n  states s\n",
+        "line 1, column 10: a channel's name can't start or end with a space",
+    );
+    says("gates tau\nleaf x\n  states s\n", "line 1, column 7: a gate can't have the name i or tau");
+    says("gates \"?a\"\nleaf x\n  states s\n", "line 1, column 7: a gate can't have the name i or tau");
 }
 
 #[test]
@@ -109,7 +124,7 @@ fn name_tables() {
         folder.write("m.hex", "000102000201\n");
         folder.write("m.names", text);
         let ran = folder.run(&["show", "m.hex"]);
-        assert_eq!(ran.status, 2, "{text}");
+        assert_eq!(ran.status, 3, "{text}");
         assert!(ran.err.contains(&format!("m.names, {expected}")), "{text}: {}", ran.err);
         assert_eq!(folder.run(&["check", "m.hex"]).status, 0);
     };
@@ -119,6 +134,25 @@ fn name_tables() {
     says("channel 1 a\nchannel 2 a\n", "line 2, column 1: this number or name stands above");
     says("process 1 a\n", "line 1, column 9: the model has no line 1");
     says("state 0 2 a\n", "line 1, column 7: line 0 of the model is no leaf with a state 2");
+    says("text 00\n", "line 1, column 6: a digest of 64 hexadecimal digits is due");
+    says("source text a.model 00\n", "line 1, column 8: the kind of a source is model or aut");
+    says("channel 1 \" a\"\n", "line 1, column 11: a channel's name can't start or end with a space");
+    says("gate 1 \"a!\"\n", "line 1, column 8: a gate can't have the name i or tau");
+}
+
+/// A gate of the table on which the model has inputs, in a leaf or by relabelling.
+#[test]
+fn gates_with_inputs() {
+    for text in ["000102000301\n", "000102000501\n0104000201\n"] {
+        let folder = Folder::new();
+        folder.write("m.hex", text);
+        folder.write("m.names", "# names\ngate 1 a\n");
+        let ran = folder.run(&["to-aut", "m.hex"]);
+        let expected = "m.names, line 2, column 1: a gate has no inputs, and the model has some on 1; write 'channel' for 'gate'.";
+        assert!(ran.status == 3 && ran.err.contains(expected), "{}", ran.err);
+        folder.write("m.names", "channel 1 a\n");
+        folder.done(&["to-aut", "m.hex"]);
+    }
 }
 
 #[test]
@@ -129,7 +163,7 @@ fn words() {
     folder.write("-odd.hex", "000102000201\n");
     let fails = |words: &[&str], expected: &str| {
         let ran = folder.run(words);
-        assert_eq!(ran.status, 2, "{words:?}");
+        assert_eq!(ran.status, 3, "{words:?}");
         assert!(ran.err.contains(expected), "{words:?}: {}", ran.err);
     };
     fails(&["steps", "a.hex", "--line", "1"], "has no line 1; its lines go from 0 to 0");
@@ -137,11 +171,27 @@ fn words() {
     fails(&["pairs", "a.hex", "a.hex", "--most", "3"], "4 pairs of states, too many to list");
     fails(&["pairs", "a.hex", "a.hex", "--mode", "both"], "--mode takes strong or weak");
     fails(&["compare", "a.hex", "a.hex", "--quiet=yes"], "--quiet takes no value");
-    fails(&["compare", "a.hex", "a.hex", "--limit", "-1"], "--limit takes a whole number");
+    fails(
+        &["compare", "a.hex", "a.hex", "--limit", "-1"],
+        "--limit takes a whole number from 0 to 18,446,744",
+    );
+    fails(
+        &["compare", "a.hex", "a.hex", "--nodes", "x"],
+        "--nodes takes a whole number from 2 to 1,048,576,",
+    );
+    fails(
+        &["pairs", "a.hex", "a.hex", "--nodes", "1e6"],
+        "--nodes takes a whole number from 2 to 1,048,576,",
+    );
+    fails(&["steps", "a.hex", "--line", "last"], "--line takes a whole number from 0 to 63,");
     fails(&["build", "a.model", "--into", "nowhere"], "nowhere/a.hex can't be written");
     fails(&["build", "a.model", "--out", "b.hex"], "--out names the file of 'build --text'");
     fails(&["build", "a.hex"], "'seipolku build --text a.hex'");
     fails(&["build", "a.aut"], "'seipolku from-aut a.aut'");
+    fails(
+        &["build", "a.names"],
+        "a.names is a name table by its ending; give the file of the readable form, such as a.model.",
+    );
     fails(&["show", "-odd.hex"], "show has no option -odd.hex");
     fails(&["from-aut"], "from-aut takes one file or more");
     folder.done(&["show", "--", "-odd.hex"]);

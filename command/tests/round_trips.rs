@@ -16,15 +16,38 @@ fn spelled(name: &str) -> String {
     format!("\"{}\"", name.replace('\\', "\\\\").replace('"', "\\\""))
 }
 
+/// Names that only a channel with directions may have, and one that no channel may have.
+const DIRECTED: &[&str] = &["tau", "i", "x!", "?y"];
+const NO_CHANNEL: &str = " z ";
+
+/// The channels that may have inputs: those of a leaf's inputs, and those that others become.
+fn inputs(text: &str) -> BTreeSet<u8> {
+    let byte = |line: &str, index: usize| u8::from_str_radix(&line[2 * index..2 * index + 2], 16).unwrap();
+    let mut all = BTreeSet::new();
+    for line in text.lines() {
+        match byte(line, 1) {
+            1 => all.extend(
+                (4..line.len() / 2).step_by(3).map(|i| byte(line, i)).filter(|a| a % 2 == 1).map(|a| a / 2),
+            ),
+            4 => drop(all.insert(byte(line, 4))),
+            _ => {}
+        }
+    }
+    all
+}
+
 /// A name table for parts of a model, each kind of thing with different names.
 fn names(random: &mut Random, text: &str) -> String {
     let mut table = String::new();
-    let mut unused: Vec<&str> = NAMES.to_vec();
+    let inputs = inputs(text);
+    let mut unused: Vec<&str> = NAMES.iter().copied().filter(|name| *name != NO_CHANNEL).collect();
     for number in 1..=31 {
         let often = matches!(number, 1..=3 | 31);
         if random.below(if often { 2 } else { 8 }) == 0 && !unused.is_empty() {
             let name = unused.remove(random.below(unused.len()));
-            table += &format!("{} {number} {}\n", random.pick(&["channel", "gate"]), spelled(name));
+            let directed = inputs.contains(&number) || DIRECTED.contains(&name);
+            let kind = if directed { "channel" } else { *random.pick(&["channel", "gate"]) };
+            table += &format!("{kind} {number} {}\n", spelled(name));
         }
     }
     let mut unused: Vec<&str> = NAMES.to_vec();
@@ -208,7 +231,7 @@ fn models_as_aut() {
         folder.done(&["build", "named.model"]);
         folder.done(&["to-aut", "named.hex", "--out", "two.aut"]);
         let converted = folder.run(&["from-aut", "two.aut", "--names", "named.names"]);
-        if converted.status == 2 {
+        if converted.status != 0 {
             assert!(converted.err.contains("at most"), "{}", converted.err);
             continue;
         }
@@ -216,6 +239,39 @@ fn models_as_aut() {
         leaves += 1;
     }
     assert!(leaves > 20, "{leaves}");
+}
+
+/// What to-aut writes, from-aut reads back: the same file again, and strongly the same model, by name or without names.
+#[test]
+fn to_aut_and_back() {
+    let folder = Folder::new();
+    let mut random = Random(77);
+    let mut leaves = [0, 0];
+    for round in 0..rounds(80) {
+        let text = model(&mut random, 6).text;
+        let named = round % 4 != 0;
+        folder.write("one.hex", &text);
+        let _ = std::fs::remove_file(folder.0.join("one.names"));
+        if named {
+            folder.write("one.names", names(&mut random, &text));
+            folder.done(&["build", "--text", "one.hex", "--out", "all.model"]);
+            folder.done(&["build", "all.model"]);
+            folder.write("one.names", folder.read("all.names").replace("source ", "# "));
+        }
+        folder.done(&["to-aut", "one.hex", "--out", "two.aut"]);
+        let table: &[&str] = if named { &["--names", "one.names"] } else { &[] };
+        let converted = folder.run(&[&["from-aut", "two.aut"], table].concat());
+        if converted.status != 0 {
+            assert!(converted.err.contains("at most"), "{}", converted.err);
+            continue;
+        }
+        assert_eq!(folder.done(&["to-aut", "two.hex"]), folder.read("two.aut"));
+        let verdict = folder.done(&["compare", "one.hex", "two.hex"]);
+        let names_channels = folder.read("two.names").contains("\nchannel ");
+        assert_eq!(verdict.contains("channels by number"), !named && names_channels, "{verdict}");
+        leaves[usize::from(named)] += 1;
+    }
+    assert!(leaves[0] > 10 && leaves[1] > 30, "{leaves:?}");
 }
 
 /// A line of a picture with its strings taken out; every string must be closed.

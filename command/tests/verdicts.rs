@@ -44,8 +44,12 @@ fn statuses() {
     // Strong is different, weak is refused: the worse counts.
     assert_eq!(status(&["--nodes", "1000"]), 2);
     assert_eq!(status(&["--nodes", "1,048,577"]), 2);
-    assert_eq!(status(&["--mode", "odd"]), 2);
-    assert_eq!(run(&["compare", right[0]]).status, 2);
+    assert_eq!(status(&["--mode", "odd"]), 3);
+    assert_eq!(run(&["compare", right[0]]).status, 3);
+    assert_eq!(run(&["compare", right[0], "models/nothing.hex"]).status, 3);
+    assert_eq!(run(&["steps", "models/abp.hex", "--most", "1"]).status, 3);
+    assert_eq!(run(&["frobnicate"]).status, 3);
+    assert_eq!(run(&[]).status, 3);
     assert_eq!(run(&["pairs", right[0], right[1]]).status, 0);
     assert_eq!(run(&["pairs", "models/shuttle_one_faulty.hex", right[1]]).status, 1);
     assert_eq!(run(&["--version"]).status, 0);

@@ -3,11 +3,13 @@
 use crate::arguments::{Form, Given};
 use crate::files;
 use crate::frames::{Frame, Model};
-use crate::load::names_beside;
-use crate::outcome::{counted, fail, Answer, Outcome, REFUSED};
+use crate::load::{decoded, names_beside};
+use crate::origin::Checked;
+use crate::outcome::{counted, Answer, Outcome, REFUSED};
 use crate::proved;
 use crate::refusals;
 use crate::space::Space;
+use std::path::Path;
 
 pub const FORM: Form = Form { command: "check", values: &[], flags: &[] };
 
@@ -18,14 +20,26 @@ pub fn run(given: &Given) -> Answer {
         let words = refusals::of_text(&refusal, path, &text);
         return Ok(Outcome { text: words + "\n", notes: Vec::new(), status: REFUSED });
     }
-    let Some(model) = Model::decode(&text) else {
-        return fail(format!("{} was accepted but can't be decoded; please report this.", path.display()));
-    };
+    let model = decoded(path, &text)?;
     let mut outcome = Outcome::text(format!("{}: accepted: {}.\n", path.display(), size(&model)));
-    if let Err(failure) = names_beside(path, &model) {
-        outcome.notes.push(format!("note: {failure}"));
+    match names_beside(path, &model) {
+        Err(failure) => outcome.notes.push(format!("note: {failure}")),
+        Ok(None) => {}
+        Ok(Some(names)) => {
+            let checked = Checked { path, text: &text, names: &names };
+            checked.fresh(None)?;
+            outcome.notes.extend(checked.missing().map(|file| missing(path, &file)));
+        }
     }
     Ok(outcome)
+}
+
+fn missing(path: &Path, source: &Path) -> String {
+    format!(
+        "note: {} was built from {}, which is not there; whether it has changed can't be told.",
+        path.display(),
+        source.display()
+    )
 }
 
 /// Lines, bits, leaf uses and states of the last line's process.

@@ -1,21 +1,23 @@
 //! `compare`: verdicts of two models.
 
 use crate::arguments::{Form, Given};
+use crate::channels::{self, Basis};
 use crate::files;
-use crate::frames::Model;
 use crate::json;
-use crate::load::names_beside;
-use crate::names::Names;
+use crate::load;
 use crate::outcome::{counted, fail, Answer, Failure, Outcome, DIFFERENT, EQUAL, REFUSED};
 use crate::progress;
-use crate::proved::{self, ENTRIES, LIMIT};
+use crate::proved::{self, Verdict, ENTRIES, LIMIT};
 use crate::refusals::{self, Call};
-use seipolku::{Mode, Refusal, Verdict};
+use seipolku::{Mode, Refusal};
 use std::path::Path;
 use std::time::Duration;
 
-pub const FORM: Form =
-    Form { command: "compare", values: &["--mode", "--limit", "--nodes"], flags: &["--quiet", "--json"] };
+pub const FORM: Form = Form {
+    command: "compare",
+    values: &["--mode", "--limit", "--nodes"],
+    flags: &["--by-number", "--quiet", "--json"],
+};
 
 struct Compared {
     mode: Mode,
@@ -29,23 +31,38 @@ pub fn run(given: &Given) -> Answer {
     let limit = given.number("--limit")?.unwrap_or(LIMIT);
     let entries = given.number("--nodes")?.unwrap_or(ENTRIES);
     let (left, right) = (files::read(files[0])?, files::read(files[1])?);
-    let mut table = proved::table(entries);
+    let basis = basis(files, [&left, &right], given.flag("--by-number"))?;
+    let mut table = proved::table(entries)?;
     let mut all = Vec::new();
     for mode in modes {
-        let call = || table.compare(&left, &right, mode, limit);
+        let call = || table.get()?.compare(&left, &right, mode, limit).map(Verdict::of);
         let (answer, time) = progress::timed(word(mode), !given.flag("--quiet"), call);
         all.push(Compared { mode, answer, time });
     }
     let call = Call { files, texts: [&left, &right], entries, limit };
     let status = all.iter().map(|c| status(&c.answer)).max().unwrap_or(EQUAL);
-    let notes = channel_notes(&call);
+    let text = match (given.flag("--json"), given.flag("--quiet")) {
+        (true, _) => json(&all, &call, basis.as_ref(), status),
+        (false, true) => String::new(),
+        (false, false) => words(&all, &call, basis.as_ref()),
+    };
+    let mut notes = Vec::new();
+    if given.flag("--quiet") || !given.flag("--json") {
+        notes = basis.map(|b| b.notes).unwrap_or_default();
+    }
     if given.flag("--quiet") {
-        return Ok(Outcome { text: String::new(), notes: explanations(&all, &call), status });
+        notes.extend(explanations(&all, &call));
     }
-    if given.flag("--json") {
-        return Ok(Outcome { text: json(&all, &call, &notes, status), notes: Vec::new(), status });
+    Ok(Outcome { text, notes, status })
+}
+
+/// What channels are taken by; nothing where the library refuses a text, so that there is no comparison.
+fn basis(files: [&Path; 2], texts: [&[u8]; 2], by_number: bool) -> Result<Option<Basis>, Failure> {
+    if texts.iter().any(|text| proved::refusal(text).is_some()) {
+        return Ok(None);
     }
-    Ok(Outcome { text: words(&all, &call), notes, status })
+    let models = load::both_of_accepted(files, texts.map(<[u8]>::to_vec))?;
+    Ok(Some(channels::basis(&models, by_number)?))
 }
 
 pub fn word(mode: Mode) -> &'static str {
@@ -81,17 +98,16 @@ fn verdict_word(answer: &Result<Verdict, Refusal>) -> &'static str {
     ["equal", "different", "refused"][usize::from(status(answer)).min(2)]
 }
 
-fn words(all: &[Compared], call: &Call) -> String {
+fn words(all: &[Compared], call: &Call, basis: Option<&Basis>) -> String {
+    let by = basis.map_or("", Basis::words);
     let mut text = String::new();
     for Compared { mode, answer, time } in all {
         let seconds = time.as_secs_f64();
         let detail = match answer {
             Ok(verdict) => {
-                format!("{}, {}", counted(verdict.rounds, "round"), counted(verdict.nodes, "node"))
+                format!("{}, {}{by}", counted(verdict.rounds, "round"), counted(verdict.nodes, "node"))
             }
-            Err(refusal) => {
-                format!("{} {} {}", refusal.fault.number(), refusals::side(refusal), refusal.line)
-            }
+            Err(refusal) => refusals::short(refusal),
         };
         text += &format!("{:<6}  {:<9}  {detail}, {seconds:.3} s\n", word(*mode), verdict_word(answer));
     }
@@ -113,15 +129,16 @@ fn explanations(all: &[Compared], call: &Call) -> Vec<String> {
     explained
 }
 
-fn json(all: &[Compared], call: &Call, notes: &[String], status: u8) -> String {
+fn json(all: &[Compared], call: &Call, basis: Option<&Basis>, status: u8) -> String {
     let file = |path: &Path| json::string(&path.to_string_lossy());
     let answers: Vec<String> = all.iter().map(|compared| json_answer(compared, call)).collect();
-    let notes: Vec<String> = notes.iter().map(|n| json::string(n)).collect();
+    let notes: Vec<String> = basis.iter().flat_map(|b| &b.notes).map(|n| json::string(n)).collect();
     let whole = json::object(&[
         ("left", file(call.files[0])),
         ("right", file(call.files[1])),
         ("entries", call.entries.to_string()),
         ("limit", call.limit.to_string()),
+        ("channels", basis.map_or("null".to_string(), |b| json::string(b.json()))),
         ("answers", json::array(&answers)),
         ("notes", json::array(&notes)),
         ("status", status.to_string()),
@@ -147,42 +164,4 @@ fn json_answer(compared: &Compared, call: &Call) -> String {
         ]),
     }
     json::object(&members)
-}
-
-/// Channels are compared by number; says where the two name tables disagree about them.
-fn channel_notes(call: &Call) -> Vec<String> {
-    let names = |side: usize| -> Result<Names, Failure> {
-        match Model::decode(call.texts[side]).filter(|_| proved::refusal(call.texts[side]).is_none()) {
-            Some(model) => names_beside(call.files[side], &model),
-            None => Ok(Names::default()),
-        }
-    };
-    match (names(0), names(1)) {
-        (Ok(left), Ok(right)) => disagreements(&left, &right),
-        (Err(failure), _) | (_, Err(failure)) => vec![format!("note: {failure}")],
-    }
-}
-
-fn disagreements(left: &Names, right: &Names) -> Vec<String> {
-    let mut found = Vec::new();
-    for (number, channel) in &left.channels {
-        if let Some(other) = right.channels.get(number).filter(|other| other.name != channel.name) {
-            found.push(format!(
-                "{number} is '{}' on the left and '{}' on the right",
-                channel.name, other.name
-            ));
-        }
-        let moved = right.channels.iter().find(|(n, c)| *n != number && c.name == channel.name);
-        if let Some((other, _)) = moved {
-            found.push(format!("'{}' is {number} on the left and {other} on the right", channel.name));
-        }
-    }
-    if found.is_empty() {
-        return found;
-    }
-    vec![format!(
-        "note: channels are compared by number, and the name tables disagree: {}. If this is not meant, build both files \
-         together, or one with --names and the other's table.",
-        found.join("; ")
-    )]
 }

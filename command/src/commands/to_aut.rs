@@ -2,10 +2,11 @@
 
 use crate::arguments::{Form, Given};
 use crate::aut::{self, Aut, Label, Transition};
-use crate::files;
+use crate::frames::{MOST_STATES, MOST_TRIPLES};
 use crate::load::{load, Loaded};
 use crate::names::Names;
-use crate::outcome::{Answer, Outcome};
+use crate::outcome::{counted, Answer};
+use crate::output;
 use crate::reach::{self, Listed, MOST};
 
 pub const FORM: Form = Form { command: "to-aut", values: &["--line", "--most", "--out"], flags: &["--tau"] };
@@ -14,14 +15,22 @@ pub fn run(given: &Given) -> Answer {
     let loaded = load(given.one_file()?)?.up_to(given.number("--line")?)?;
     let listed = reach::reachable(&loaded, given.number("--most")?.unwrap_or(MOST))?;
     let internal = if given.flag("--tau") { "\"tau\"" } else { "i" };
-    let text = aut::print(&converted(&loaded, &listed), internal);
-    match given.path("--out") {
-        None => Ok(Outcome::text(text)),
-        Some(file) => {
-            files::write(file, &text)?;
-            Ok(Outcome::text(format!("wrote {}\n", file.display())))
-        }
-    }
+    let aut = converted(&loaded, &listed);
+    let mut outcome = output::give(aut::print(&aut, internal), given.path("--out"), &loaded.read())?;
+    outcome.notes.extend(too_large(&aut));
+    Ok(outcome)
+}
+
+/// Other tools read larger files than a leaf holds.
+fn too_large(aut: &Aut) -> Option<String> {
+    let (states, transitions) = (aut.states, aut.transitions.len());
+    (states > MOST_STATES || transitions > MOST_TRIPLES).then(|| {
+        format!(
+            "note: with {} and {} this is more than from-aut reads back, {MOST_STATES} states and {MOST_TRIPLES} transitions.",
+            counted(states as u64, "state"),
+            counted(transitions as u64, "transition")
+        )
+    })
 }
 
 fn converted(loaded: &Loaded, listed: &Listed) -> Aut {

@@ -27,7 +27,7 @@ pub fn run_in(folder: &Path, words: &[&str]) -> Ran {
         err: String::from_utf8_lossy(&stderr).into_owned(),
         status: status.code().unwrap_or(-1),
     };
-    assert!((0..=2).contains(&ran.status), "{words:?}: status {}: {}", ran.status, ran.err);
+    assert!((0..=3).contains(&ran.status), "{words:?}: status {}: {}", ran.status, ran.err);
     ran
 }
 
