@@ -11,7 +11,7 @@ use Rattle.nodes.specs.internal.Parts.{hashes, headsAt, memoryAt, linksI
 
 -- a number below n, for n above 0, that depends on v, lo and hi
 unfoldable pub hashOf : ℕ → ℕ → ℕ → ℕ → ℕ
-hashOf v lo hi n = (7 * v + cond (ltb lo hi) hi lo + cond (ltb lo hi) lo hi % 1024) % n
+hashOf v lo hi n = (7 * v + 2 * cond (ltb lo hi) hi lo + cond (ltb lo hi) lo hi % 1024) % n
 
 -- how many entries the index covers
 abbrev pub coverage : List ℕ → List ℕ → ℕ
