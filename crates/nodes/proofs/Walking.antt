@@ -1,6 +1,6 @@
 -- The walk of a look-up, an entry at a time. Assumes nothing.
-use mathlib.Core.Path.{_≡_, refl, _∙_}
-use mathlib.Core.Bool.{true, false, cond}
+use mathlib.Core.Path.{_≡_, refl, sym, _∙_}
+use mathlib.Core.Bool.{Bool, true, false, cond}
 use Prim.Native.Nat.{ℕ, zero, suc, _+_, _-_, _≤_, _<_}
 use native.Mathlib.Nat.{not-suc-le-zero}
 use native.Mathlib.Numerals.{add-one}
@@ -12,6 +12,7 @@ use Rattle.nodes.specs.Fun.{Assignment}
 use Rattle.nodes.specs.Table.{lastLevel}
 use Rattle.nodes.specs.Lookup.{looked-up, Slices, table-fits, walk-from, small, look-up}
 use Rattle.nodes.proofs.Working.{and-both}
+use Rattle.nodes.specs.declared.lookup.Looked.{Looked}
 use Rattle.nodes.specs.declared.lookup.Looked.the-variants.{Value, Turned}
 
 module _ (s : Slices) (a : Assignment) (from : ℕ) where
@@ -63,34 +64,35 @@ module _ (s : Slices) (a : Assignment) (from : ℕ) where
       let e : suc n - 1 ≡ n = omega arith in
       rw (e, add-one (getD (s .level) (suc (suc k)) 0), lt-ltb (suc (suc k)) (length (s .level)) h, le-leb from (getD (s .level) (suc (suc k)) 0) l, le-leb (getD (s .level) (suc (suc k)) 0) lastLevel u) refl
 
-  -- by the bit at the node's level
+  -- by the bit b at the node's level
   module _ (n i child : ℕ) (m : 0 < n) (two : 2 ≤ i) (h : i < length (s .level)) (l : from ≤ getD (s .level) i 0) (u : getD (s .level) i 0 ≤ lastLevel) where
-    pub walk-up : a (getD (s .level) i 0) ≡ true → child ≡ getD (s .high) i 0
+    pub walk-up : {b : Bool} → b ≡ a (getD (s .level) i 0) → b ≡ true → child ≡ getD (s .high) i 0
         → walk-from n s a from i ≡ walk-from (n - 1) s a (getD (s .level) i 0 + 1) child
-    walk-up e f = walk-step n i m two h l u ∙ rw (e, f) refl
+    walk-up e t f = walk-step n i m two h l u ∙ rw (sym e ∙ t, f) refl
 
-    pub walk-down : a (getD (s .level) i 0) ≡ false → child ≡ getD (s .low) i 0
+    pub walk-down : {b : Bool} → b ≡ a (getD (s .level) i 0) → b ≡ false → child ≡ getD (s .low) i 0
         → walk-from n s a from i ≡ walk-from (n - 1) s a (getD (s .level) i 0 + 1) child
-    walk-down e f = walk-step n i m two h l u ∙ rw (e, f) refl
+    walk-down e t f = walk-step n i m two h l u ∙ rw (sym e ∙ t, f) refl
 
--- ---- the whole look-up
+-- ---- the whole look-up, by its two tests b and c
 
-pub fit-lengths : (s : Slices) → table-fits s ≡ true → (length (s .low) ≡ length (s .level)) × (length (s .high) ≡ length (s .level))
+pub fit-lengths : (s : Slices) {b : Bool} → b ≡ table-fits s → b ≡ true → (length (s .low) ≡ length (s .level)) × (length (s .high) ≡ length (s .level))
 unfolding table-fits
-fit-lengths s e =
-    let (a, b) = and-both (eqb (length (s .low)) (length (s .level))) _ e in
+fit-lengths s e t =
+    let (a, b) = and-both (eqb (length (s .low)) (length (s .level))) _ (sym e ∙ t) in
     let (c, d) = and-both (eqb (length (s .high)) (length (s .level))) _ b in
     (eqb-true (length (s .low)) (length (s .level)) a, eqb-true (length (s .high)) (length (s .level)) c)
 
-module _ (s : Slices) (root α x x′ y y′ : ℕ) where
-  pub look-walks : table-fits s ≡ true → small α x x′ y y′ ≡ true → look-up s root α x x′ y y′ ≡ walk-from (lastLevel + 2) s (looked-up α x x′ y y′) 0 root
+module _ (s : Slices) (root α x x′ y y′ : ℕ) {b : Bool} (e : b ≡ table-fits s) where
+  pub look-walks : {c : Bool} {r : Looked} → b ≡ true → c ≡ small α x x′ y y′ → c ≡ true → r ≡ walk-from (lastLevel + 2) s (looked-up α x x′ y y′) 0 root
+      → r ≡ look-up s root α x x′ y y′
   unfolding look-up
-  look-walks e f = rw (e, f) refl
+  look-walks t f u w = rw (sym e ∙ t, sym f ∙ u) w
 
-  pub look-ten : table-fits s ≡ true → small α x x′ y y′ ≡ false → look-up s root α x x′ y y′ ≡ Turned 10
+  pub look-ten : {c : Bool} → b ≡ true → c ≡ small α x x′ y y′ → c ≡ false → Turned 10 ≡ look-up s root α x x′ y y′
   unfolding look-up
-  look-ten e f = rw (e, f) refl
+  look-ten t f u = rw (sym e ∙ t, sym f ∙ u) refl
 
-  pub look-seven : table-fits s ≡ false → look-up s root α x x′ y y′ ≡ Turned 7
+  pub look-seven : b ≡ false → Turned 7 ≡ look-up s root α x x′ y y′
   unfolding look-up
-  look-seven e = rw e refl
+  look-seven t = rw (sym e ∙ t) refl

@@ -7,7 +7,8 @@ use borrow.Fn.Kinds.{In}
 use borrow.Fn.PlainCycle.{Measures, is, falls, and}
 use Rattle.nodes.specs.internal.Packed.{levels, lows, packed-table}
 use Rattle.nodes.specs.internal.Parts.{linksIn, headsIn, memoIn}
-use Rattle.nodes.specs.internal.Operate.{Settles, Recalled, Operating}
+use Rattle.nodes.specs.Table.{den}
+use Rattle.nodes.specs.internal.Operate.{operation, Settles, Recalled, Operating}
 use Rattle.nodes.proofs.Memory.{recalls}
 use Rattle.nodes.proofs.Recursion.{operate-at as at-hand, operate-recalled, turned, turned-as, falls-low, falls-high, operands-low, operands-high, operate-short-1, operate-short-2, operate-makeable, operate-answers}
 use Rattle.nodes.proofs.apply.operate.Reads as operate
@@ -16,6 +17,7 @@ use Rattle.nodes.proofs.apply.+operate.Lts-operate as lts
 use Rattle.nodes.proofs.apply.finish.Reads as finish-reads
 use Rattle.nodes.proofs.apply.pick.Reads as pick-reads
 use Rattle.nodes.proofs.computed.recall.Reads as recall-reads
+use Rattle.nodes.proofs.computed.slot_for.Reads as slot-for-reads
 use Rattle.nodes.proofs.apply.settle.Reads as settle-reads
 use Rattle.nodes.proofs.apply.split_at_top.Reads as split-at-top-reads
 use Rattle.nodes.proofs.apply.turns.Reads as turns-reads
@@ -41,6 +43,8 @@ claims t = (
   turns-reads.Learnt,
   pick-reads.Asked,
   pick-reads.Learnt,
+  slot-for-reads.Asked,
+  slot-for-reads.Learnt,
   recall-reads.Asked,
   recall-reads.Learnt,
   split-at-top-reads.Asked,
@@ -65,7 +69,7 @@ returns-2 : (t : ℕ) → lts.Need-returns-2 (claims t) (given-at t) operate.Pos
 returns-2 u c =
     let c6 = c .before in
     let c5 = c6 .before .before in
-    let c4 = c5 .before .before in
+    let c4 = c5 .before .before .before .before in
     let c3 = c4 .before in
     let c2 = c3 .before in
     let c0 = c2 .before .before .before .before .before .before .before .before .before in
@@ -78,7 +82,7 @@ returns-2 u c =
 
 split-at-top-requires : (t : ℕ) → lts.Need-split-at-top-requires (claims t) (given-at t) operate.Post
 split-at-top-requires u c κs =
-    let c3 = c .before .before .before .before .before .before .before .before .before in
+    let c3 = c .before .before .before .before .before .before .before .before .before .before .before in
     let c2 = c3 .before .before in
     let c0 = c2 .before .before .before .before .before .before in
     let a = c0 .args in
@@ -89,7 +93,7 @@ split-at-top-requires u c κs =
 operate-requires : (t : ℕ) → lts.Need-operate-requires (claims t) (given-at t) operate.Post
 operate-requires u c κs =
     let c4 = c .before .before .before in
-    let c3 = c4 .before .before .before .before .before .before .before .before .before .before in
+    let c3 = c4 .before .before .before .before .before .before .before .before .before .before .before .before in
     let c2 = c3 .before .before in
     let c0 = c2 .before .before .before .before .before .before in
     let a = c0 .args in
@@ -106,7 +110,7 @@ returns-3 : (t : ℕ) → lts.Need-returns-3 (claims t) (given-at t) operate.Pos
 returns-3 u c =
     let c5 = c .before .before .before .before .before .before .before .before in
     let c4 = c5 .before .before .before .before in
-    let c3 = c4 .before .before .before .before .before .before .before .before .before .before in
+    let c3 = c4 .before .before .before .before .before .before .before .before .before .before .before .before in
     let c2 = c3 .before .before in
     let c0 = c2 .before .before .before .before .before .before in
     let a = c0 .args in
@@ -115,14 +119,15 @@ returns-3 u c =
     let is-open = subst (Settles t (a .op) (a .f) (a .g)) (c3 .enum-told .given .1) (c2 .settle .ensures) in
     let s = c4 .split-at-top .result in
     let sp = c4 .split-at-top .ensures in
-    operate-short-1 t (a .op) (a .f) (a .g) (pre .0) is-open s sp _ (subst (Operating t _ _ _ _) (c .enum-told3 .given .1) (c5 .operate .ensures))
+    let x = c5 .operate in
+    operate-short-1 t (a .op) (a .f) (a .g) (pre .0) is-open s sp _ (subst (Operating t (x .last .0) (x .last .1 .0) (x .last .1 .1 .0) (operation (a .op) (den t (s .f0)) (den t (s .g0)))) (c .enum-told3 .given .1) (x .ensures))
 
 operate-requires-2 : (t : ℕ) → lts.Need-operate-requires-2 (claims t) (given-at t) operate.Post
 operate-requires-2 u c κs =
     let c6 = c .before .before .before .before in
     let c5 = c6 .before .before .before .before .before .before .before .before in
     let c4 = c5 .before .before .before .before in
-    let c3 = c4 .before .before .before .before .before .before .before .before .before .before in
+    let c3 = c4 .before .before .before .before .before .before .before .before .before .before .before .before in
     let c2 = c3 .before .before in
     let c0 = c2 .before .before .before .before .before .before in
     let a = c0 .args in
@@ -131,7 +136,8 @@ operate-requires-2 u c κs =
     let is-open = subst (Settles t (a .op) (a .f) (a .g)) (c3 .enum-told .given .1) (c2 .settle .ensures) in
     let s = c4 .split-at-top .result in
     let sp = c4 .split-at-top .ensures in
-    let first = subst (Operating t _ _ _ _) (c6 .a .given .1) (c5 .operate .ensures) in (
+    let x = c5 .operate in
+    let first = subst (Operating t (x .last .0) (x .last .1 .0) (x .last .1 .1 .0) (operation (a .op) (den t (s .f0)) (den t (s .g0)))) (c6 .a .given .1) (x .ensures) in (
       subst (λ (n : ℕ). s .f1 + s .g1 < n) (c0 .pre .0) (falls-high t (a .op) (a .f) (a .g) (pre .0) is-open s sp),
       (operands-high t (a .op) (a .f) (a .g) (pre .0) is-open s sp _ _ (first .0), first .1),
     )
@@ -142,7 +148,7 @@ returns-4 u c =
     let c6 = c7 .before .before .before .before .before in
     let c5 = c6 .before .before .before .before .before .before .before .before in
     let c4 = c5 .before .before .before .before in
-    let c3 = c4 .before .before .before .before .before .before .before .before .before .before in
+    let c3 = c4 .before .before .before .before .before .before .before .before .before .before .before .before in
     let c2 = c3 .before .before in
     let c0 = c2 .before .before .before .before .before .before in
     let a = c0 .args in
@@ -151,8 +157,11 @@ returns-4 u c =
     let is-open = subst (Settles t (a .op) (a .f) (a .g)) (c3 .enum-told .given .1) (c2 .settle .ensures) in
     let s = c4 .split-at-top .result in
     let sp = c4 .split-at-top .ensures in
-    let first = subst (Operating t _ _ _ _) (c6 .a .given .1) (c5 .operate .ensures) in
-    operate-short-2 t (a .op) (a .f) (a .g) (pre .0) is-open s sp _ _ (first .0) _ (subst (Operating _ _ _ _ _) (c .enum-told4 .given .1) (c7 .operate2 .ensures))
+    let x = c5 .operate in
+    let first = subst (Operating t (x .last .0) (x .last .1 .0) (x .last .1 .1 .0) (operation (a .op) (den t (s .f0)) (den t (s .g0)))) (c6 .a .given .1) (x .ensures) in
+    let t₁ = packed-table (x .last .0) (x .last .1 .0) (c6 .a .given .0 .1 .0) in
+    let y = c7 .operate2 in
+    operate-short-2 t (a .op) (a .f) (a .g) (pre .0) is-open s sp _ _ (first .0) _ (subst (Operating t₁ (y .last .0) (y .last .1 .0) (y .last .1 .1 .0) (operation (a .op) (den t₁ (s .f1)) (den t₁ (s .g1)))) (c .enum-told4 .given .1) (y .ensures))
 
 finish-requires : (t : ℕ) → lts.Need-finish-requires (claims t) (given-at t) operate.Post
 finish-requires u c κs =
@@ -161,7 +170,7 @@ finish-requires u c κs =
     let c6 = c7 .before .before .before .before .before in
     let c5 = c6 .before .before .before .before .before .before .before .before in
     let c4 = c5 .before .before .before .before in
-    let c3 = c4 .before .before .before .before .before .before .before .before .before .before in
+    let c3 = c4 .before .before .before .before .before .before .before .before .before .before .before .before in
     let c2 = c3 .before .before in
     let c0 = c2 .before .before .before .before .before .before in
     let a = c0 .args in
@@ -170,8 +179,11 @@ finish-requires u c κs =
     let is-open = subst (Settles t (a .op) (a .f) (a .g)) (c3 .enum-told .given .1) (c2 .settle .ensures) in
     let s = c4 .split-at-top .result in
     let sp = c4 .split-at-top .ensures in
-    let first = subst (Operating t _ _ _ _) (c6 .a .given .1) (c5 .operate .ensures) in
-    let second = subst (Operating _ _ _ _ _) (c8 .b .given .1) (c7 .operate2 .ensures) in
+    let x = c5 .operate in
+    let first = subst (Operating t (x .last .0) (x .last .1 .0) (x .last .1 .1 .0) (operation (a .op) (den t (s .f0)) (den t (s .g0)))) (c6 .a .given .1) (x .ensures) in
+    let t₁ = packed-table (x .last .0) (x .last .1 .0) (c6 .a .given .0 .1 .0) in
+    let y = c7 .operate2 in
+    let second = subst (Operating t₁ (y .last .0) (y .last .1 .0) (y .last .1 .1 .0) (operation (a .op) (den t₁ (s .f1)) (den t₁ (s .g1)))) (c8 .b .given .1) (y .ensures) in
     (operate-makeable t (a .op) (a .f) (a .g) (pre .0) is-open s sp _ _ (first .0) _ _ (second .0), (second .1 .indexed, pre .0 .known))
 
 returns-5 : (t : ℕ) → lts.Need-returns-5 (claims t) (given-at t) operate.Post
@@ -182,7 +194,7 @@ returns-5 u c =
     let c9 = c10 .before .before .before .before .before in
     let c8 = c9 .before .before .before .before .before .before .before .before in
     let c7 = c8 .before .before .before .before in
-    let c6 = c7 .before .before .before .before .before .before .before in
+    let c6 = c7 .before .before .before .before .before .before .before .before .before in
     let c5 = c6 .before in
     let c4 = c5 .before in
     let c3 = c4 .before in
@@ -195,12 +207,15 @@ returns-5 u c =
     let is-open = subst (Settles t (a .op) (a .f) (a .g)) (c3 .enum-told .given .1) (c2 .settle .ensures) in
     let s = c7 .split-at-top .result in
     let sp = c7 .split-at-top .ensures in
-    let first = subst (Operating t _ _ _ _) (c9 .a .given .1) (c8 .operate .ensures) in
-    let second = subst (Operating _ _ _ _ _) (c11 .b .given .1) (c10 .operate2 .ensures) in
-    let x = c12 .finish in
+    let x = c8 .operate in
+    let first = subst (Operating t (x .last .0) (x .last .1 .0) (x .last .1 .1 .0) (operation (a .op) (den t (s .f0)) (den t (s .g0)))) (c9 .a .given .1) (x .ensures) in
+    let t₁ = packed-table (x .last .0) (x .last .1 .0) (c9 .a .given .0 .1 .0) in
+    let y = c10 .operate2 in
+    let second = subst (Operating t₁ (y .last .0) (y .last .1 .0) (y .last .1 .1 .0) (operation (a .op) (den t₁ (s .f1)) (den t₁ (s .g1)))) (c11 .b .given .1) (y .ensures) in
+    let z = c12 .finish in
     operate-answers t (a .op) (a .f) (a .g) (pre .0) is-open s sp _ _ (first .0) _ _ (second .0)
-    (levels (x .last .0)) (lows (x .last .0)) (x .last .1 .0) (headsIn (x .last .1 .1 .0)) (linksIn (x .last .1 .1 .0)) _ (memoIn (x .last .1 .1 .0))
-    (second .1 .remembered) turn (x .result) (x .ensures)
+    (levels (z .last .0)) (lows (z .last .0)) (z .last .1 .0) (headsIn (z .last .1 .1 .0)) (linksIn (z .last .1 .1 .0)) _ (memoIn (z .last .1 .1 .0))
+    (second .1 .remembered) turn (z .result) (z .ensures)
 
 pub +operate-spec : {M : Type 1} → statement M
 +operate-spec = close μ-operate λ t. lts.spec
@@ -213,6 +228,7 @@ pub +operate-spec : {M : Type 1} → statement M
     (λ c. refl)
     (returns t)
     (λ c. search needs)
+    (λ c κs. search needs)
     (λ c κs. search needs)
     (λ c κs. search needs)
     (λ c κs. search needs)

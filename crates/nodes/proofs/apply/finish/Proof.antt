@@ -1,7 +1,9 @@
 -- `nodes::finish` meets its contract, by those of `make` and `remember`. Assumes nothing.
 use borrow.Author.Needs.{needs}
 use mathlib.Core.Path.{subst}
-use Rattle.nodes.specs.internal.Make.{Making}
+use native.Mathlib.Omega.{arith}
+use Rattle.nodes.specs.internal.Make.{Making, nodeFun}
+use Rattle.nodes.specs.internal.Packed.{packed-table}
 use Rattle.nodes.proofs.Holding.{finished}
 use Rattle.nodes.proofs.apply.finish.Statement.{statement}
 use Rattle.nodes.proofs.apply.finish.Tie as tie
@@ -9,21 +11,29 @@ use Rattle.nodes.proofs.apply.finish.Tie as tie
 returns : tie.Need-returns
 returns c =
     let c1 = c .before .before .before .before .before .before .before .before in
-    subst (Making _ _ _ _ _ _) (c .enum-told .given .1) (c1 .make .ensures) .0
+    let a = c1 .before .before .before .before .before .before .before .args in
+    let t = packed-table (a .packed .now) (a .high .now) (a .used) in
+    let f = nodeFun t (a .v) (a .a) (a .b) in
+    let x = c1 .make in
+    subst (Making t (x .last .0) (x .last .1 .0) (a .work .now) (x .last .1 .1 .0) f) (c .enum-told .given .1) (x .ensures) .0
 
 remember-requires : tie.Need-remember-requires
 remember-requires c κs =
     let c0 = c .before .before .before .before .before .before .before .before .before .before .before .before .before .before .before .before .before in
-    c0 .pre .1 .1
+    omega (arith, c0 .pre .1 .1)
 
 returns-2 : tie.Need-returns-2
 returns-2 c =
     let c3 = c .before .before in
     let c2 = c3 .before .before .before in
     let c1 = c2 .before .before .before .before .before .before .before .before in
-    let m = subst (Making _ _ _ _ _ _) (c2 .i .given .1) (c1 .make .ensures) in
+    let a = c1 .before .before .before .before .before .before .before .args in
+    let t = packed-table (a .packed .now) (a .high .now) (a .used) in
+    let f = nodeFun t (a .v) (a .a) (a .b) in
+    let x = c1 .make in
+    let m = subst (Making t (x .last .0) (x .last .1 .0) (a .work .now) (x .last .1 .1 .0) f) (c2 .i .given .1) (x .ensures) in
     let r = c3 .remember in
-    finished _ _ _ _ _ _ _ _ _ _ _ _ m (r .ensures)
+    finished t (x .last .0) (x .last .1 .0) (a .work .now) (x .last .1 .1 .0) (r .last .0) f (a .op) (a .f) (a .g) _ _ m (r .ensures)
 
 pub finish-spec : {M : Type 1} → statement M
 finish-spec =

@@ -4,6 +4,7 @@ use mathlib.Core.Path.{refl, sym, _∙_, ap₂, subst}
 use native.Mathlib.Omega.{arith}
 use borrow.Author.Tests.{not-true, not-false}
 use Rattle.nodes.specs.declared.room.Room.{Room}
+use Rattle.nodes.specs.Table.{den}
 use Rattle.nodes.specs.internal.Operate.{operation}
 use Rattle.nodes.specs.internal.Work.{store, Applies}
 use Rattle.nodes.proofs.Parting.{levels-length}
@@ -48,7 +49,7 @@ returns-2 c =
     subst (λ (r : Room). Applies s (store packed high work r) (a .op) (a .f) (a .g) (r .root)) (sym (c .room-after .ensures))
     (record {
       after = record {
-        ready = operated-ready s packed high work _ (o .result) (o .ensures);
+        ready = operated-ready s packed high work (operation (a .op) (den (s .table) (a .f)) (den (s .table) (a .g))) (o .result) (o .ensures);
         kept = record {
           packed = o .kept .0;
           high = o .kept .1 .0;

@@ -1,5 +1,6 @@
 -- `nodes::fix` meets its contract. Assumes nothing.
 use borrow.Author.Needs.{needs}
+use Rattle.nodes.specs.internal.Work.{store}
 use Rattle.nodes.proofs.Working.{fixing-known, fix-maps}
 use Rattle.nodes.proofs.calls.fix.Statement.{statement}
 use Rattle.nodes.proofs.calls.fix.Tie as tie
@@ -16,7 +17,8 @@ returns c =
     let c2 = c3 .before .before .before .before in
     let c0 = c2 .before .before .before .before in
     let a = c0 .args in
-    fix-maps (a .v) (a .b) (c0 .pre .0) (c2 .fixing .ensures) (c3 .apply .ensures)
+    let o = c3 .apply in
+    fix-maps {s = store (a .packed .now) (a .high .now) (a .work .now) (a .room)} {s′ = store (o .last .1 .1 .1 .1 .0) (o .last .1 .1 .1 .1 .1 .0) (o .last .1 .1 .1 .1 .1 .1 .0) (o .result)} (a .v) (a .b) (c0 .pre .0) (c2 .fixing .ensures) (o .ensures)
 
 pub fix-spec : {M : Type 1} → statement M
 fix-spec =

@@ -55,8 +55,13 @@ returns-2 t c =
     let c3 = c4 .before .before .before .before .before .before .before in
     let c2 = c3 .before .before .before .before in
     let c0 = c2 .before .before .before .before in
-    maps-fixed (c0 .args .n) (c0 .args .c) (omega (arith, c2 .if1 .left)) (c3 .fix-below .ensures)
-    (rw (sym (c4 .digit-at .ensures)) (c5 .fix .ensures))
+    let a = c0 .args in
+    let x = c3 .fix-below in
+    let y = c5 .fix in
+    let s = store (a .packed .now) (a .high .now) (a .work .now) (a .room) in
+    let s₁ = store (x .last .1 .1 .1 .1 .0) (x .last .1 .1 .1 .1 .1 .0) (x .last .1 .1 .1 .1 .1 .1 .0) (x .result) in
+    let s₂ = store (y .last .1 .1 .1 .1 .0) (y .last .1 .1 .1 .1 .1 .0) (y .last .1 .1 .1 .1 .1 .1 .0) (y .result) in
+    maps-fixed {s = s} {s₁ = s₁} {s₂ = s₂} (a .n) (a .c) (omega (arith, c2 .if1 .left)) (x .ensures) (rw (sym (c4 .digit-at .ensures)) (y .ensures))
 
 pub +fix-below-spec : {M : Type 1} → statement M
 +fix-below-spec = close μ-fix-below λ t. fix-below-lts.spec (

@@ -73,7 +73,13 @@ returns-2 t c =
     let c3 = c4 .before .before .before .before .before .before .before .before .before .before in
     let c2 = c3 .before .before .before .before in
     let c0 = c2 .before .before .before .before in
-    maps-renamed (c0 .args .v) (c0 .args .w) (c0 .args .k) (c0 .args .n) (omega (arith, c2 .if1 .left)) (c3 .rename-from .ensures) (c4 .rename .ensures)
+    let a = c0 .args in
+    let x = c3 .rename-from in
+    let y = c4 .rename in
+    let s = store (a .packed .now) (a .high .now) (a .work .now) (a .room) in
+    let s₁ = store (x .last .1 .1 .1 .1 .1 .1 .0) (x .last .1 .1 .1 .1 .1 .1 .1 .0) (x .last .1 .1 .1 .1 .1 .1 .1 .1 .0) (x .result) in
+    let s₂ = store (y .last .1 .1 .1 .1 .0) (y .last .1 .1 .1 .1 .1 .0) (y .last .1 .1 .1 .1 .1 .1 .0) (y .result) in
+    maps-renamed {s = s} {s₁ = s₁} {s₂ = s₂} (a .v) (a .w) (a .k) (a .n) (omega (arith, c2 .if1 .left)) (x .ensures) (y .ensures)
 
 pub +rename-from-spec : {M : Type 1} → statement M
 +rename-from-spec = close μ-rename-from λ t. rename-from-lts.spec (

@@ -5,8 +5,8 @@ use borrow.Author.Tests.{not-true, not-false}
 use Rattle.nodes.specs.declared.room.Room.{Room}
 use Rattle.nodes.specs.Formula.{renamed}
 use Rattle.nodes.specs.internal.Work.{store, Maps}
-use Rattle.nodes.proofs.Working.{after-then, to-operate, used-one, not-mapped}
-use Rattle.nodes.proofs.Singles.{renamed-more}
+use Rattle.nodes.proofs.Working.{to-operate, not-mapped}
+use Rattle.nodes.proofs.Singles.{renamed-more, maps-renaming}
 use Rattle.nodes.proofs.levels.rename.Statement.{statement}
 use Rattle.nodes.proofs.levels.rename.Tie as tie
 
@@ -25,7 +25,6 @@ returns c =
     (not-mapped (a .packed .now) (a .high .now) (a .work .now) (a .room) (a .f) (renamed (a .v) (a .w)) (renamed-more (a .v) (a .w)) (c0 .pre .0) (sym (c2 .can-apply .ensures) ∙ not-true _ (c .before .if1 .taken)))
 
 returns-2 : tie.Need-returns-2
-unfolding renamed
 returns-2 c =
     let c3 = c .before .before .before .before .before .before in
     let c2 = c3 .before .before .before .before .before .before .before .before .before .before in
@@ -33,11 +32,14 @@ returns-2 c =
     let e = c1 .before .before .before .before in
     let a = e .before .before .before .before .before .args in
     let x = to-operate (a .packed .now) (a .high .now) (a .work .now) (a .room) (a .f) (a .f) (sym (e .before .can-apply .ensures) ∙ not-false _ (e .if1 .left)) in
-    record {
-      after = after-then (c1 .same .ensures .after) (after-then (c2 .and .ensures .after) (c3 .exists .ensures .after));
-      gives = λ p. c3 .exists .ensures .gives (c2 .and .ensures .turned p (c1 .same .ensures .gives));
-      nothing = used-one (x .1);
-    }
+    let y = c1 .same in
+    let z = c2 .and in
+    let u = c3 .exists in
+    let s = store (a .packed .now) (a .high .now) (a .work .now) (a .room) in
+    let s₁ = store (y .last .1 .1 .1 .0) (y .last .1 .1 .1 .1 .0) (y .last .1 .1 .1 .1 .1 .0) (y .result) in
+    let s₂ = store (z .last .1 .1 .1 .0) (z .last .1 .1 .1 .1 .0) (z .last .1 .1 .1 .1 .1 .0) (z .result) in
+    let s₃ = store (u .last .1 .1 .1 .0) (u .last .1 .1 .1 .1 .0) (u .last .1 .1 .1 .1 .1 .0) (u .result) in
+    maps-renaming {s = s} {s₁ = s₁} {s₂ = s₂} {s₃ = s₃} (a .v) (a .w) (x .1) (y .ensures) (z .ensures) (u .ensures)
 
 pub rename-spec : {M : Type 1} → statement M
 rename-spec =

@@ -14,8 +14,8 @@ returns : tie.Need-returns
 returns c =
     let c1 = c .before in
     let a = c1 .before .before .before .before .args in
-    sym (look-seven (slices (a .level .now) (a .low .now) (a .high .now)) (a .root) (a .action) (a .left-now) (a .left-next) (a .right-now) (a .right-next)
-    (sym (c1 .slices-fit .ensures) ∙ not-true _ (c .if1 .taken)))
+    look-seven (slices (a .level .now) (a .low .now) (a .high .now)) (a .root) (a .action) (a .left-now) (a .left-next) (a .right-now) (a .right-next)
+    (c1 .slices-fit .ensures) (not-true _ (c .if1 .taken))
 
 values-fit-requires : tie.Need-values-fit-requires
 values-fit-requires c κs = search needs
@@ -26,15 +26,15 @@ returns-2 c =
     let c2 = c3 .before in
     let c1 = c2 .before in
     let a = c1 .before .before .before .before .args in
-    sym (look-ten (slices (a .level .now) (a .low .now) (a .high .now)) (a .root) (a .action) (a .left-now) (a .left-next) (a .right-now) (a .right-next)
-    (sym (c1 .slices-fit .ensures) ∙ not-false _ (c2 .if1 .left)) (sym (c3 .values-fit .ensures) ∙ not-true _ (c .if2 .taken)))
+    look-ten (slices (a .level .now) (a .low .now) (a .high .now)) (a .root) (a .action) (a .left-now) (a .left-next) (a .right-now) (a .right-next)
+    (c1 .slices-fit .ensures) (not-false _ (c2 .if1 .left)) (c3 .values-fit .ensures) (not-true _ (c .if2 .taken))
 
 walk-requires : tie.Need-walk-requires
 walk-requires c κs =
     let c2 = c .before .before in
     let c1 = c2 .before in
     let a = c1 .before .before .before .before .args in
-    fit-lengths (slices (a .level .now) (a .low .now) (a .high .now)) (sym (c1 .slices-fit .ensures) ∙ not-false _ (c2 .if1 .left))
+    fit-lengths (slices (a .level .now) (a .low .now) (a .high .now)) (c1 .slices-fit .ensures) (not-false _ (c2 .if1 .left))
 
 returns-3 : tie.Need-returns-3
 returns-3 c =
@@ -43,9 +43,8 @@ returns-3 c =
     let c2 = c3 .before in
     let c1 = c2 .before in
     let a = c1 .before .before .before .before .args in
-    c .walk .ensures
-    ∙ sym (look-walks (slices (a .level .now) (a .low .now) (a .high .now)) (a .root) (a .action) (a .left-now) (a .left-next) (a .right-now) (a .right-next)
-    (sym (c1 .slices-fit .ensures) ∙ not-false _ (c2 .if1 .left)) (sym (c3 .values-fit .ensures) ∙ not-false _ (c4 .if2 .left)))
+    look-walks (slices (a .level .now) (a .low .now) (a .high .now)) (a .root) (a .action) (a .left-now) (a .left-next) (a .right-now) (a .right-next)
+    (c1 .slices-fit .ensures) (not-false _ (c2 .if1 .left)) (c3 .values-fit .ensures) (not-false _ (c4 .if2 .left)) (c .walk .ensures)
 
 pub look-up-spec : {M : Type 1} → statement M
 look-up-spec =

@@ -68,9 +68,9 @@ loop-again c =
     let l = c .before .before .before .before .before .before .before .before .before .before .loop in
     ⊎-elim
     (λ w. sym (walk-up (slices (a .level .now) (a .low .now) (a .high .now)) (looked-up (a .action) (a .x) (a .x1) (a .y) (a .y1)) (l .from) (l .n) (l .i) (c .before .if6 .child)
-    (omega arith) (omega arith) (omega arith) (omega arith) (omega arith) (sym (c .before .before .bit-at .ensures) ∙ w .0 .taken) (omega arith)) ∙ l .inv)
+    (omega arith) (omega arith) (omega arith) (omega arith) (omega arith) (c .before .before .bit-at .ensures) (w .0 .taken) (omega arith)) ∙ l .inv)
     (λ w. sym (walk-down (slices (a .level .now) (a .low .now) (a .high .now)) (looked-up (a .action) (a .x) (a .x1) (a .y) (a .y1)) (l .from) (l .n) (l .i) (c .before .if6 .child)
-    (omega arith) (omega arith) (omega arith) (omega arith) (omega arith) (sym (c .before .before .bit-at .ensures) ∙ w .0 .left) (omega arith)) ∙ l .inv)
+    (omega arith) (omega arith) (omega arith) (omega arith) (omega arith) (c .before .before .bit-at .ensures) (w .0 .left) (omega arith)) ∙ l .inv)
     (c .before .if6 .came)
 
 returns-6 : tie.Need-returns-6 Inv-loop μ-loop

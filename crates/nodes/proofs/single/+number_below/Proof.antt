@@ -83,7 +83,15 @@ returns-2 t c =
     let c3 = c4 .before .before .before .before .before .before .before .before .before .before in
     let c2 = c3 .before .before .before .before in
     let c0 = c2 .before .before .before .before in
-    lists-chosen (c0 .args .v) (c0 .args .k) (c0 .args .w) (omega (arith, c2 .if1 .left)) (c0 .args .n) (omega (arith, c0 .pre .1 .1 .apart)) (c3 .number-below .ensures) (c4 .number-below2 .ensures) (c5 .node .ensures)
+    let a = c0 .args in
+    let x = c3 .number-below in
+    let y = c4 .number-below2 in
+    let z = c5 .node in
+    let s = store (a .packed .now) (a .high .now) (a .work .now) (a .room) in
+    let s₁ = store (x .last .1 .1 .1 .1 .1 .0) (x .last .1 .1 .1 .1 .1 .1 .0) (x .last .1 .1 .1 .1 .1 .1 .1 .0) (x .result) in
+    let s₂ = store (y .last .1 .1 .1 .1 .1 .0) (y .last .1 .1 .1 .1 .1 .1 .0) (y .last .1 .1 .1 .1 .1 .1 .1 .0) (y .result) in
+    let s₃ = store (z .last .1 .1 .1 .1 .0) (z .last .1 .1 .1 .1 .1 .0) (z .last .1 .1 .1 .1 .1 .1 .0) (z .result) in
+    lists-chosen {s = s} {s₁ = s₁} {s₂ = s₂} {s₃ = s₃} (a .v) (a .k) (a .w) (omega (arith, c2 .if1 .left)) (a .n) (omega (arith, c0 .pre .1 .1 .apart)) (x .ensures) (y .ensures) (z .ensures)
 
 pub +number-below-spec : {M : Type 1} → statement M
 +number-below-spec = close μ-number-below λ t. number-below-lts.spec (

@@ -74,7 +74,13 @@ returns-2 t c =
     let c3 = c4 .before .before .before .before .before .before .before .before .before .before in
     let c2 = c3 .before .before .before .before in
     let c0 = c2 .before .before .before .before in
-    lists-paired (c0 .args .v) (c0 .args .k) (c0 .args .w) (omega (arith, c2 .if1 .left)) (c0 .pre .1 .1 .apart) (c3 .numbers-same .ensures) (c4 .pair .ensures)
+    let a = c0 .args in
+    let x = c3 .numbers-same in
+    let y = c4 .pair in
+    let s = store (a .packed .now) (a .high .now) (a .work .now) (a .room) in
+    let s₁ = store (x .last .1 .1 .1 .1 .0) (x .last .1 .1 .1 .1 .1 .0) (x .last .1 .1 .1 .1 .1 .1 .0) (x .result) in
+    let s₂ = store (y .last .1 .1 .1 .1 .0) (y .last .1 .1 .1 .1 .1 .0) (y .last .1 .1 .1 .1 .1 .1 .0) (y .result) in
+    lists-paired {s = s} {s₁ = s₁} {s₂ = s₂} (a .v) (a .k) (a .w) (omega (arith, c2 .if1 .left)) (c0 .pre .1 .1 .apart) (x .ensures) (y .ensures)
 
 pub +numbers-same-spec : {M : Type 1} → statement M
 +numbers-same-spec = close μ-numbers-same λ t. numbers-same-lts.spec (

@@ -1,5 +1,6 @@
 -- `nodes::guard` meets its contract. Assumes nothing.
 use borrow.Author.Needs.{needs}
+use Rattle.nodes.specs.internal.Work.{store}
 use Rattle.nodes.proofs.Singles.{guards}
 use Rattle.nodes.proofs.single.guard.Statement.{statement}
 use Rattle.nodes.proofs.single.guard.Tie as tie
@@ -11,7 +12,8 @@ returns c =
     let c2 = c3 .before in
     let c0 = c2 .before .before .before .before in
     let a = c0 .args in
-    guards (a .v) (a .f) (a .b) (c2 .pick .ensures) (c3 .pick2 .ensures) (c0 .pre .0) (c4 .node .ensures)
+    let o = c4 .node in
+    guards {s = store (a .packed .now) (a .high .now) (a .work .now) (a .room)} {s′ = store (o .last .1 .1 .1 .1 .0) (o .last .1 .1 .1 .1 .1 .0) (o .last .1 .1 .1 .1 .1 .1 .0) (o .result)} (a .v) (a .f) (a .b) (c2 .pick .ensures) (c3 .pick2 .ensures) (c0 .pre .0) (o .ensures)
 
 pub guard-spec : {M : Type 1} → statement M
 guard-spec =

@@ -1,6 +1,7 @@
 -- `nodes::pair` meets its contract. Assumes nothing.
 use borrow.Author.Needs.{needs}
 use native.Mathlib.Omega.{arith}
+use Rattle.nodes.specs.internal.Work.{store}
 use Rattle.nodes.proofs.Singles.{pairs}
 use Rattle.nodes.proofs.single.pair.Statement.{statement}
 use Rattle.nodes.proofs.single.pair.Tie as tie
@@ -23,7 +24,15 @@ returns c =
     let c3 = c4 .before .before .before .before .before .before .before .before .before .before in
     let c2 = c3 .before .before .before .before .before .before .before .before .before .before in
     let c0 = c2 .before .before .before .before .before .before .before in
-    pairs (c0 .args .v) (c0 .args .w) (c0 .pre .1 .0) (c2 .guard .ensures) (c3 .guard2 .ensures) (c4 .node .ensures)
+    let a = c0 .args in
+    let x = c2 .guard in
+    let y = c3 .guard2 in
+    let z = c4 .node in
+    let s = store (a .packed .now) (a .high .now) (a .work .now) (a .room) in
+    let s₁ = store (x .last .1 .1 .1 .1 .0) (x .last .1 .1 .1 .1 .1 .0) (x .last .1 .1 .1 .1 .1 .1 .0) (x .result) in
+    let s₂ = store (y .last .1 .1 .1 .1 .0) (y .last .1 .1 .1 .1 .1 .0) (y .last .1 .1 .1 .1 .1 .1 .0) (y .result) in
+    let s₃ = store (z .last .1 .1 .1 .1 .0) (z .last .1 .1 .1 .1 .1 .0) (z .last .1 .1 .1 .1 .1 .1 .0) (z .result) in
+    pairs {s = s} {s₁ = s₁} {s₂ = s₂} {s₃ = s₃} (a .v) (a .w) (c0 .pre .1 .0) (x .ensures) (y .ensures) (z .ensures)
 
 pub pair-spec : {M : Type 1} → statement M
 pair-spec =

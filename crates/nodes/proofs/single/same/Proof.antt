@@ -1,6 +1,7 @@
 -- `nodes::same` meets its contract. Assumes nothing.
 use borrow.Author.Needs.{needs}
 use native.Mathlib.Omega.{arith}
+use Rattle.nodes.specs.internal.Work.{store}
 use Rattle.nodes.proofs.Singles.{lists-sorted}
 use Rattle.nodes.proofs.single.same.Statement.{statement}
 use Rattle.nodes.proofs.single.same.Tie as tie
@@ -21,7 +22,9 @@ returns c =
     let c3 = c4 .before .before .before .before in
     let c2 = c3 .before in
     let c0 = c2 .before .before .before .before in
-    lists-sorted (c0 .args .v) (c0 .args .w) (c2 .smaller .ensures) (c3 .larger .ensures) (c0 .pre .0) (c4 .pair .ensures)
+    let a = c0 .args in
+    let o = c4 .pair in
+    lists-sorted {s = store (a .packed .now) (a .high .now) (a .work .now) (a .room)} {s′ = store (o .last .1 .1 .1 .1 .0) (o .last .1 .1 .1 .1 .1 .0) (o .last .1 .1 .1 .1 .1 .1 .0) (o .result)} (a .v) (a .w) (c2 .smaller .ensures) (c3 .larger .ensures) (c0 .pre .0) (o .ensures)
 
 pub same-spec : {M : Type 1} → statement M
 same-spec =
