@@ -107,6 +107,13 @@ filled b m i h f =
     ∙ sym (append-snoc (take i b) (getD b i 0) (replicate k 0))
     ∙ ap (λ (l : List ℕ). l ++ replicate k 0) (sym (take-suc b i 0 h) ∙ ap (λ (n : ℕ). take n b) (sym (add-one i)))
 
+-- the same where the byte is put together from the values of its digits
+pub filled-digits : (ds : List ℕ) (m i : ℕ) {l : List ℕ} {high low : ℕ} → i < length ds / 2 → length (bytesOf ds) ≤ m → l ≡ take i (bytesOf ds) ++ replicate (m - i) 0
+    → high ≡ hexValue (getD ds (2 * i) 0) → low ≡ hexValue (getD ds (2 * i + 1) 0)
+    → set l i (high * 16 + low) ≡ take (i + 1) (bytesOf ds) ++ replicate (m - (i + 1)) 0
+filled-digits ds m i h f e p q =
+    rw (e, p, q, ← byte-digits ds i h) (filled (bytesOf ds) m i (omega (arith, length-bytes ds)) f)
+
 -- ---- what decoding answers
 
 -- the answer, by the two tests
@@ -125,6 +132,19 @@ module _ (ds : List ℕ) where
   pub decoding-bytes : spelt ds ≡ true → length (bytesOf ds) ≤ maxBytes → decodingOf ds ≡ Bytes (length (bytesOf ds))
   unfolding decodingOf
   decoding-bytes e l = rw (e, le-leb (length (bytesOf ds)) maxBytes l)
+
+  -- what is handed over with each of the three
+  pub decoded-stray : spelt ds ≡ false → record { answer = Stray; bytes = replicate maxBytes 0 } ≡ decoded ds
+  unfolding decoded heldBy
+  decoded-stray e = rw (decoding-stray e)
+
+  pub decoded-long : spelt ds ≡ true → maxBytes < length ds / 2 → record { answer = Long; bytes = replicate maxBytes 0 } ≡ decoded ds
+  unfolding decoded heldBy
+  decoded-long e l = rw (decoding-long e (omega (arith, length-bytes ds)))
+
+  pub decoded-bytes : {b : List ℕ} → spelt ds ≡ true → length ds / 2 ≤ maxBytes → b ≡ bytesOf ds ++ replicate (maxBytes - length (bytesOf ds)) 0 → record { answer = Bytes (length ds / 2); bytes = b } ≡ decoded ds
+  unfolding decoded heldBy
+  decoded-bytes e l h = rw (decoding-bytes e (omega (arith, length-bytes ds)), h, length-bytes ds)
 
   -- Stray: some byte is no digit, or a digit is alone.
   pub stray : (decodingOf ds ≡ Stray) ↔ (spelt ds ≡ false)

@@ -2,13 +2,10 @@
 -- Assumes nothing.
 use mathlib.Core.Path.{_≡_, sym, _∙_}
 use mathlib.Core.Bool.{true}
-use Prim.Native.Nat.{_<_}
 use native.Mathlib.Omega.{arith}
-use lib.ListN.{length}
 use borrow.Author.Tests.{not-true, not-false}
-use Rattle.frames.specs.Bytes.{spelt, bytesOf, maxBytes}
-use Rattle.frames.specs.internal.Decoded.{heldBy, decoded}
-use Rattle.frames.proofs.ByteLaws.{length-bytes, decoding-stray, decoding-long, decoding-bytes}
+use Rattle.frames.specs.Bytes.{spelt}
+use Rattle.frames.proofs.ByteLaws.{length-bytes, decoded-stray, decoded-long, decoded-bytes}
 use borrow.Author.Needs.{needs}
 use Rattle.frames.proofs.bytes.decode.Statement.{statement}
 use Rattle.frames.proofs.bytes.decode.Tie as tie
@@ -21,15 +18,10 @@ spells-requires : tie.Need-spells-requires
 spells-requires c κs = search needs
 
 returns : tie.Need-returns
-unfolding decoded heldBy
-returns c = rw (decoding-stray _ (sym (c .before .spells .ensures) ∙ not-true (c .before .spells .result) (c .if1 .taken)))
+returns c = decoded-stray _ (sym (c .before .spells .ensures) ∙ not-true (c .before .spells .result) (c .if1 .taken))
 
 returns-2 : tie.Need-returns-2
-unfolding decoded heldBy
-returns-2 c =
-    let ds = c .before .before .before .before .args .digits .now in
-    let l : maxBytes < length (bytesOf ds) = omega (arith, length-bytes ds) in
-    rw (decoding-long ds (whole (c .before)) l)
+returns-2 c = decoded-long _ (whole (c .before)) (c .if2 .taken)
 
 decode-bytes-requires : tie.Need-decode-bytes-requires
 decode-bytes-requires c κs =
@@ -37,11 +29,7 @@ decode-bytes-requires c κs =
     (whole (c .before), omega arith)
 
 returns-3 : tie.Need-returns-3
-unfolding decoded heldBy
-returns-3 c =
-    let ds = c .before .before .before .before .before .args .digits .now in
-    let e = length-bytes ds in
-    rw (decoding-bytes ds (whole (c .before .before)) (omega arith)) (cc)
+returns-3 c = decoded-bytes _ (whole (c .before .before)) (c .before .if2 .left) (c .decode-bytes .ensures)
 
 pub decode-spec : {M : Type 1} → statement M
 decode-spec =

@@ -7,7 +7,7 @@ use native.Mathlib.Omega.{arith}
 use lib.ListN.{length, take, replicate}
 use lib.Seq.{take-length}
 use Rattle.frames.specs.Bytes.{bytesOf, maxBytes}
-use Rattle.frames.proofs.ByteLaws.{length-bytes, byte-digits, digit-small, filled}
+use Rattle.frames.proofs.ByteLaws.{length-bytes, digit-small, filled-digits}
 use borrow.Author.Needs.{needs}
 use Rattle.frames.proofs.bytes.decode_bytes.Statement.{statement}
 use Rattle.frames.proofs.bytes.decode_bytes.Tie as tie
@@ -68,11 +68,9 @@ loop-less c = search needs
 loop-again : tie.Need-loop-again Inv-loop μ-loop
 loop-again c = (
   search needs,
-  let ds = c .before .before .before .before .before .before .before .args .digits .now in
-      let i = c .before .before .before .before .before .loop .i in
-      let h : i < length ds / 2 = omega arith in
-      let l : i < length (bytesOf ds) = omega (arith, length-bytes ds) in
-      cc (filled (bytesOf ds) maxBytes i l (c .before .before .before .before .before .before .before .pre .1), byte-digits ds i h, c .before .before .before .before .before .loop .inv .1),
+  let entry = c .before .before .before .before .before .before .before in
+      let turn = c .before .before .before .before in
+      filled-digits (entry .args .digits .now) maxBytes (turn .before .loop .i) (turn .loop-test .taken) (entry .pre .1) (turn .before .loop .inv .1) (c .before .before .hex-value .ensures) (c .hex-value2 .ensures),
 )
 
 returns : tie.Need-returns Inv-loop μ-loop
