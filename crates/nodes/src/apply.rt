@@ -37,6 +37,9 @@ fn settle_and(f: u32, g: u32) -> Settled
     if g == 1 {
         return Settled::Is(f);
     }
+    if f == g {
+        return Settled::Is(f);
+    }
     Settled::Open
 }
 
@@ -53,6 +56,9 @@ fn settle_or(f: u32, g: u32) -> Settled
         return Settled::Is(g);
     }
     if g == 0 {
+        return Settled::Is(f);
+    }
+    if f == g {
         return Settled::Is(f);
     }
     Settled::Open

@@ -3,8 +3,8 @@ ghost use Prim.Native.Nat.{_≤_, _<_};
 ghost use Rattle.nodes.specs.internal.Parts.{memoIn};
 ghost use Rattle.nodes.specs.internal.Operate.{lastOperation, slotsIn, lastNumber, Recalled, Keeping};
 use super::unique::Found;
-use super::work::hash;
 use super::work::memory_at;
+use super::work::slot;
 use super::work::slots;
 
 // The result of an operation, where the memory has it.
@@ -16,7 +16,7 @@ pub(crate) fn recall(work: &[u32], op: u32, f: u32, g: u32) -> Found
     if n == 0 {
         return Found::Nothing;
     }
-    let at = memory_at(work) + 4 * hash(op, f, g, n);
+    let at = memory_at(work) + 4 * slot(op, f, g, n);
     if work[at] == op + 1 {
         if work[at + 1] == f {
             if work[at + 2] == g {
@@ -48,6 +48,6 @@ pub(crate) fn remember(work: &mut [u32], op: u32, f: u32, g: u32, r: u32)
     if n == 0 {
         return;
     }
-    let s = hash(op, f, g, n);
+    let s = slot(op, f, g, n);
     write_slot(work, s, op, f, g, r);
 }

@@ -15,8 +15,8 @@ use super::computed::write_slot;
 use super::limits::LAST_LEVEL;
 use super::unique::Made;
 use super::unique::make;
-use super::work::hash;
 use super::work::memory_at;
+use super::work::slot;
 use super::work::slots;
 
 // The entries of a function with a level fixed to 0, fixed to 1, and of the ∨ of the two.
@@ -60,7 +60,7 @@ fn recall_three(work: &[u32], v: u8, f: u32) -> Held
     if n == 0 {
         return Held::Nothing;
     }
-    let at = memory_at(work) + 4 * hash(v as u32, f, 0, n);
+    let at = memory_at(work) + 4 * slot(v as u32, f, 0, n);
     if work[at] == number_of(v, f) + 1 {
         return Held::At(Trio {
             zero: work[at + 1],
@@ -80,7 +80,7 @@ fn remember_three(work: &mut [u32], v: u8, f: u32, r: Trio)
     if n == 0 {
         return;
     }
-    let s = hash(v as u32, f, 0, n);
+    let s = slot(v as u32, f, 0, n);
     let number = number_of(v, f);
     write_slot(work, s, number, r.zero, r.one, r.any);
 }

@@ -6,6 +6,7 @@ ghost use lib.Dec.{ltb};
 ghost use Rattle.nodes.specs.internal.Parts.{parted, covers, hashes, memoryAt, linksIn, headsIn};
 ghost use Rattle.nodes.specs.internal.Operate.{slotsIn};
 ghost use Rattle.nodes.specs.internal.Index.{hashOf, coverage};
+use super::apply::pick;
 
 // x, less m where it has that much.
 fn lessened(x: usize, m: usize) -> usize
@@ -25,13 +26,28 @@ fn remainder(x: usize, n: usize) -> usize
     x % n
 }
 
-// A place below n for three numbers. Near numbers have near places, so that nodes made one after the other are found in
-// few cache lines.
-pub(crate) fn hash(a: u32, b: u32, c: u32, n: usize) -> usize
+// A place below n for the node of level v with children lo and hi: that of the larger child, spread by the level and the smaller
+// one, so that nodes made one after the other are found in few cache lines.
+pub(crate) fn hash(v: u32, lo: u32, hi: u32, n: usize) -> usize
     requires { ⌜ 0 < n ⌝ }
-    ensures { λ r. ⌜ (r ≡ hashOf a b c n) × (r < n) ⌝ }
+    ensures { λ r. ⌜ (r ≡ hashOf v lo hi n) × (r < n) ⌝ }
 {
-    remainder((a as usize) + 3 * (b as usize) + (c as usize), n)
+    let rises = lo < hi;
+    let near = pick(rises, hi, lo) as usize;
+    let far = pick(rises, lo, hi) as usize;
+    let x = 7 * (v as usize) + near + far % 1024;
+    if x < n {
+        return x;
+    }
+    remainder(x, n)
+}
+
+// A slot below n for the result of an operation with three numbers.
+pub(crate) fn slot(a: u32, b: u32, c: u32, n: usize) -> usize
+    requires { ⌜ 0 < n ⌝ }
+    ensures { λ r. ⌜ r < n ⌝ }
+{
+    remainder(3 * (a as usize) + (b as usize) + 2 * (c as usize), n)
 }
 
 // How many words there are behind the first.

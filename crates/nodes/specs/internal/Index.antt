@@ -4,14 +4,14 @@ use mathlib.Core.Path.{_≡_}
 use mathlib.Core.Bool.{cond}
 use mathlib.Core.List.{List}
 use Prim.Native.Nat.{ℕ, _+_, _*_, _%_, _≤_, _<_}
-use lib.Dec.{eqb}
+use lib.Dec.{eqb, ltb}
 use lib.ListN.{length, getD, set}
 use Rattle.nodes.specs.Table.{Table, levelOf, lowOf, highOf}
 use Rattle.nodes.specs.internal.Parts.{linksIn, headsIn, memoIn}
 
--- a number below n, for n above 0, that depends on a, b and c
+-- a number below n, for n above 0, that depends on v, lo and hi
 unfoldable pub hashOf : ℕ → ℕ → ℕ → ℕ → ℕ
-hashOf a b c n = (a + 3 * b + c) % n
+hashOf v lo hi n = (7 * v + cond (ltb lo hi) hi lo + cond (ltb lo hi) lo hi % 1024) % n
 
 -- how many entries the index covers
 abbrev pub coverage : List ℕ → List ℕ → ℕ

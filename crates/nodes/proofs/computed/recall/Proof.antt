@@ -16,7 +16,7 @@ returns-2 c =
     let c2 = c3 .before .before in
     let c0 = c2 .before .before in
     let a = c0 .args in
-    work-holds (a .work .now) _ (c3 .memory-at .ensures) (a .op) (a .f) (a .g) _ (c4 .hash .result) (omega (arith, c4 .hash .ensures .1, c2 .slots .ensures)) (c5 .if2 .taken) (c6 .if3 .taken) (c7 .if4 .taken) refl
+    work-holds (a .work .now) _ (c3 .memory-at .ensures) (a .op) (a .f) (a .g) _ (c4 .slot .result) (omega (arith, c4 .slot .ensures, c2 .slots .ensures)) (c5 .if2 .taken) (c6 .if3 .taken) (c7 .if4 .taken) refl
 
 pub recall-spec : {M : Type 1} → statement M
 recall-spec =

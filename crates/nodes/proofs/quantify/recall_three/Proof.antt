@@ -17,7 +17,7 @@ returns-2 c =
     let c2 = c3 .before .before in
     let c0 = c2 .before .before in
     let a = c0 .args in
-    work-holds (a .work .now) _ (c3 .memory-at .ensures) (quantifying (a .v) (a .f)) _ _ _ (c4 .hash .result) (omega (arith, c4 .hash .ensures .1, c2 .slots .ensures)) (c6 .if2 .taken ∙ ap (λ (n : ℕ). n + 1) (c5 .number-of .ensures .0)) refl refl refl
+    work-holds (a .work .now) _ (c3 .memory-at .ensures) (quantifying (a .v) (a .f)) _ _ _ (c4 .slot .result) (omega (arith, c4 .slot .ensures, c2 .slots .ensures)) (c6 .if2 .taken ∙ ap (λ (n : ℕ). n + 1) (c5 .number-of .ensures .0)) refl refl refl
 
 pub recall-three-spec : {M : Type 1} → statement M
 recall-three-spec =
