@@ -13,10 +13,11 @@
 extern "C" {
 #endif
 
-/* What seipolku_compare returns. */
+/* What seipolku_compare and seipolku_model return. */
 enum {
-    SEIPOLKU_EQUAL = 0,     /* answer: left root, right root, iterate root, rounds, nodes, 0 */
-    SEIPOLKU_DIFFERENT = 1, /* answer: left root, right root, 0, rounds, nodes, 0 */
+    SEIPOLKU_EQUAL = 0,     /* seipolku_compare. answer: left root, right root, iterate root, rounds, nodes, 0 */
+    SEIPOLKU_ACCEPTED = 0,  /* seipolku_model. answer: bits, lines, leaf uses, states, 0, 0 */
+    SEIPOLKU_DIFFERENT = 1, /* seipolku_compare. answer: left root, right root, 0, rounds, nodes, 0 */
     SEIPOLKU_REFUSED = 2,   /* answer: number, side (0 left, 1 right, 2 neither), line, 0, 0, 0 */
     SEIPOLKU_SHORT = 3      /* answer has fewer than 6 words; nothing was touched */
 };
@@ -39,6 +40,11 @@ uint64_t seipolku_compare(const uint8_t *left, size_t left_len, const uint8_t *r
  * the iterate's root of "equal": whether the largest bisimulation holds the two now codes. */
 uint64_t seipolku_look_up(const uint8_t *level, size_t level_len, const uint32_t *low, size_t low_len, const uint32_t *high, size_t high_len,
                           uint64_t root, uint64_t action, uint64_t left_now, uint64_t left_next, uint64_t right_now, uint64_t right_next);
+
+/* What the model of a text is. Accepted: the bits of its state codes, the text's lines, and its leaf uses and states, where all combinations
+ * of its leaves' states are counted, reachable or not. A model of n bits has the codes 0 to 2^n - 1; state 0 of every leaf is the start, code 0.
+ * Refused: the refusal 1 to 6 with its line, and side 0, as seipolku_compare gives it for a left text. */
+uint64_t seipolku_model(const uint8_t *text, size_t text_len, uint64_t *answer, size_t answer_len);
 
 #ifdef __cplusplus
 }

@@ -1,35 +1,17 @@
 //! The states of a model: which bits of a code hold which leaf's state.
 
-use crate::frames::{Frame, Model};
+use crate::frames::Model;
 use crate::names::Names;
 use crate::words::spelled;
-
-/// One use of a leaf.
-pub struct Part {
-    pub line: usize,
-    pub states: u64,
-    shift: u32,
-    width: u32,
-}
+use seipolku::frames::LeafUse;
 
 pub struct Space {
-    pub parts: Vec<Part>,
+    pub parts: Vec<LeafUse>,
 }
 
 impl Space {
     pub fn of(model: &Model) -> Space {
-        let mut shift = 0;
-        let mut parts = Vec::new();
-        for line in model.leaf_uses() {
-            let states = match model.frames.get(line) {
-                Some(Frame::Leaf { states, .. }) => u64::from(*states),
-                _ => 1,
-            };
-            let width = u64::BITS - states.saturating_sub(1).leading_zeros();
-            parts.push(Part { line, states, shift, width });
-            shift += width;
-        }
-        Space { parts }
+        Space { parts: model.leaf_uses() }
     }
 
     pub fn bits(&self) -> u32 {
@@ -43,7 +25,7 @@ impl Space {
 
     /// A leaf use's state in a code.
     pub fn state(&self, part: usize, code: u64) -> u64 {
-        self.parts.get(part).map_or(0, |p| (code >> p.shift) & ((1 << p.width) - 1))
+        self.parts.get(part).map_or(0, |p| p.state(code))
     }
 
     /// All codes that take each leaf use's state from its list, ascending where the lists ascend.

@@ -133,6 +133,18 @@ pub fn table_fits((level, low, high): (usize, usize, usize)) -> bool {
     level == low && low == high && (2..=MAX_TABLE).contains(&level)
 }
 
+/// What is told of a text: 0 with its model's bits, its lines, its model's leaf uses and states, or 2 with the refusal's number,
+/// side (0, as for a left text) and line; then six words, those without a meaning 0.
+pub fn told(read: &Result<Model, Refusal>) -> [u64; 7] {
+    match read {
+        Ok(model) => {
+            let last = model.last();
+            [0, last.bits().into(), model.lines.len() as u64, last.uses().into(), last.states(), 0, 0]
+        }
+        Err(refusal) => [2, refusal.number.into(), 0, refusal.line as u64, 0, 0, 0],
+    }
+}
+
 fn read_side(text: &[u8], side: u8) -> Result<Model, Answer> {
     reader::read(text).map_err(|Refusal { number, line }| Answer::Refused { number, side, line })
 }

@@ -3,7 +3,7 @@
 
 use std::io::{self, Write};
 
-use crate::answer::{largest, mode_of, Answer, Known, MAX_TABLE};
+use crate::answer::{largest, mode_of, told, Answer, Known, MAX_TABLE};
 use crate::calls::{any_pair, calls, fitting, small_pair, work, Call, Pair};
 use crate::codes::holds;
 use crate::list;
@@ -48,7 +48,7 @@ impl Cases {
 pub struct Stream<W: Write>(pub W);
 
 impl<W: Write> Stream<W> {
-    /// Texts, each to be judged as the left and as the right one.
+    /// Texts, each to be judged alone, as the left and as the right one.
     pub fn texts(&mut self, cases: Cases) -> io::Result<()> {
         for (case, mut random) in cases.each() {
             self.text(case, &mut random)?;
@@ -134,18 +134,17 @@ impl<W: Write> Stream<W> {
         self.0.flush()
     }
 
-    /// The refusal's number (0 if there is none) and line; and what a comparison with limit 0 beside another text says,
-    /// in this mode on a table of this length.
+    /// What is told of the text; and, if it is accepted, what a comparison with limit 0 beside another text says, in this
+    /// mode on a table of this length.
     fn text(&mut self, case: u64, random: &mut Random) -> io::Result<()> {
         let text = any_text(random);
         let (mode, length) = (random.below(2) as u64, 2 + random.below(8));
-        let (number, line, beside) = match read(&text) {
-            Err(refusal) => (refusal.number, refusal.line, 0),
-            Ok(model) => (0, 0, beside(&model, mode, length)),
-        };
+        let read = read(&text);
+        let beside = read.as_ref().map_or(0, |model| beside(model, mode, length));
         self.numbers(&[TEXT, case])?;
         self.bytes(&text)?;
-        self.numbers(&[number.into(), line as u64, mode, length as u64, beside])
+        self.numbers(&told(&read))?;
+        self.numbers(&[mode, length as u64, beside])
     }
 
     fn pair(&mut self, case: u64, left: &[u8], right: &[u8]) -> io::Result<()> {

@@ -10,10 +10,14 @@
         uint32_t *next, size_t next_len, uint32_t *memo, size_t memo_len, uint64_t *answer, size_t words
 #define LOOK_UP_ARGUMENTS TABLE_ARGUMENTS, uint64_t root, uint64_t action, uint64_t left_now, uint64_t left_next, uint64_t right_now, uint64_t right_next
 
+#define MODEL_ARGUMENTS uint8_t *text, size_t text_len, uint64_t *answer, size_t words
+
 uint64_t __real_seipolku_compare(COMPARE_ARGUMENTS);
 uint64_t __real_seipolku_look_up(LOOK_UP_ARGUMENTS);
+uint64_t __real_seipolku_model(MODEL_ARGUMENTS);
 uint64_t __wrap_seipolku_compare(COMPARE_ARGUMENTS);
 uint64_t __wrap_seipolku_look_up(LOOK_UP_ARGUMENTS);
+uint64_t __wrap_seipolku_model(MODEL_ARGUMENTS);
 
 enum { EQUAL, DIFFERENT, REFUSED, SHORT, LONGEST_TEXT = 32704, LONGEST = 1 << 20 };
 
@@ -96,4 +100,38 @@ uint64_t __wrap_seipolku_look_up(LOOK_UP_ARGUMENTS) {
     if (fault("walk ended by 0") && value == 10) return 0;
     if (fault("10 for 7") && value == 7) return 10;
     return value;
+}
+
+/* Faults in the words of an answer that is long enough. */
+static void words_fault(uint64_t kind, uint64_t *answer) {
+    if (kind == REFUSED) {
+        if (fault("model, number") && answer[0] == 6) answer[0] = 5;
+        if (fault("model, side")) answer[1] = 2;
+        if (fault("model, line") && answer[2] > 0) answer[2]--;
+        return;
+    }
+    if (fault("model, bits of one state") && answer[0] == 0) answer[0] = 1;
+    if (fault("model, line uncounted") && answer[1] == 64) answer[1]--;
+    if (fault("model, uses as lines") && answer[1] < answer[2]) answer[2] = answer[1];
+    if (fault("model, states of all codes")) answer[3] = (uint64_t)1 << answer[0];
+    if (fault("model, fifth word")) answer[4]++;
+    if (fault("model, sixth word")) answer[5]++;
+}
+
+uint64_t __wrap_seipolku_model(MODEL_ARGUMENTS) {
+    volatile uint8_t *bytes = text;
+    if (fault("model, long text cut") && text_len > LONGEST_TEXT) text_len = LONGEST_TEXT;
+    if (fault("model, text written") && text_len) bytes[0] = bytes[0];
+    if (fault("model, text read past its end") && text_len) (void)bytes[text_len];
+    if (fault("model, answer written past its end") && words) ((volatile uint64_t *)answer)[words] = 0;
+    if (fault("model, five words taken") && words == 5) words = 6;
+    if (fault("model, six words refused") && words == 6) words = 5;
+    uint64_t kind = __real_seipolku_model(text, text_len, answer, words);
+    if (kind == SHORT) {
+        if (fault("model, short answer written") && words) answer[0] = 0;
+        return fault("model, short answer taken") ? 0 : kind;
+    }
+    words_fault(kind, answer);
+    if (fault("model, seventh word") && words > 6) answer[6] = 0;
+    return fault("model, refused as accepted") ? 0 : kind;
 }

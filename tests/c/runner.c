@@ -91,22 +91,50 @@ static int count(int agrees) {
     return agrees;
 }
 
-/* One text, as the left one beside an empty text, then as the right one beside a model of one state. */
+/* NULL if the call that tells what the left text's model is does what is expected with so many words for the answer, else what it does not.
+   Expected are the returned kind and six words. */
+static const char *wrongly_told(const uint64_t *expected, uint64_t words) {
+    lend_filled(&answer, 8 * words, current + words);
+    uint64_t returned = seipolku_model(pointer(&left, current), left.size, pointer(&answer, current + words), words);
+    if (returned != (words < 6 ? SEIPOLKU_SHORT : expected[0])) return "another kind of answer";
+    if (words < 6) return kept(&answer, 0) ? NULL : "lent memory touched";
+    if (memcmp(answer.at, expected + 1, 6 * 8)) return "other words";
+    return kept(&answer, 6 * 8) ? NULL : "words past the sixth touched";
+}
+
+/* Whether the left text's model is told as expected, with 0 to 7 words for the answer. */
+static int told_agrees(const uint64_t *e) {
+    const char *why = NULL;
+    uint64_t words = 0;
+    lock(&left);
+    while (!why && words <= 7) why = wrongly_told(e, words++);
+    unlock(&left);
+    if (why && differ < MOST_REPORTS) {
+        printf("%s, case %" PRIu64 ": the model told with %" PRIu64 " words: %s\n  expected %" PRIu64 " with", label, current, words - 1, why, e[0]);
+        for (int k = 1; k <= 6; k++) printf(" %" PRIu64, e[k]);
+        putchar('\n');
+        print_text("text", &left);
+    }
+    return !why;
+}
+
+/* One text: what it tells; as the left one beside an empty text; then as the right one beside a model of one state. */
 static void text(void) {
     static const uint8_t beside[] = "000101\n";
-    uint64_t e[5]; /* number, line, mode, length, and the refusal where the text is accepted */
+    uint64_t e[10]; /* what is told: the kind and six words; then mode, length, and the refusal where the text is accepted */
     current = number();
     bytes(&left);
-    numbers(e, 5);
+    numbers(e, 10);
+    int refused = e[0] == SEIPOLKU_REFUSED, agrees = told_agrees(e);
     lend(&right, 0);
-    Call call = {e[2], 0, {e[3], e[3], e[3]}, {e[3], 0, 1}, 6, current, SEIPOLKU_REFUSED, {e[0], 0, e[1]}};
-    if (e[0] == 0) call.expected[0] = 1, call.expected[1] = 1;
-    int agrees = call_agrees(&call);
+    Call call = {e[7], 0, {e[8], e[8], e[8]}, {e[8], 0, 1}, 6, current, SEIPOLKU_REFUSED, {1, 1, 0}};
+    if (refused) memcpy(call.expected, e + 1, sizeof call.expected);
+    agrees &= call_agrees(&call);
     Slice given = left;
     left = right, right = given;
     lend(&left, sizeof beside - 1);
     memcpy(left.at, beside, left.size);
-    call.expected[0] = e[0] ? e[0] : e[4], call.expected[1] = e[0] ? 1 : 2;
+    call.expected[0] = refused ? e[1] : e[9], call.expected[1] = refused ? 1 : 2;
     count(call_agrees(&call) && agrees);
 }
 

@@ -8,9 +8,9 @@ use crate::load::names_beside;
 use crate::names::Names;
 use crate::outcome::{counted, fail, Answer, Failure, Outcome, DIFFERENT, EQUAL, REFUSED};
 use crate::progress;
-use crate::proved::{self, ENTRIES, LIMIT};
+use crate::proved::{self, Verdict, ENTRIES, LIMIT};
 use crate::refusals::{self, Call};
-use seipolku::{Mode, Refusal, Verdict};
+use seipolku::{Mode, Refusal};
 use std::path::Path;
 use std::time::Duration;
 
@@ -29,10 +29,10 @@ pub fn run(given: &Given) -> Answer {
     let limit = given.number("--limit")?.unwrap_or(LIMIT);
     let entries = given.number("--nodes")?.unwrap_or(ENTRIES);
     let (left, right) = (files::read(files[0])?, files::read(files[1])?);
-    let mut table = proved::table(entries);
+    let mut table = proved::table(entries)?;
     let mut all = Vec::new();
     for mode in modes {
-        let call = || table.compare(&left, &right, mode, limit);
+        let call = || table.get()?.compare(&left, &right, mode, limit).map(Verdict::of);
         let (answer, time) = progress::timed(word(mode), !given.flag("--quiet"), call);
         all.push(Compared { mode, answer, time });
     }

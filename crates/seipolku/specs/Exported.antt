@@ -3,6 +3,11 @@ use mathlib.Core.Path.{_≡_}
 use mathlib.Core.List.{List, [], _∷_}
 use Prim.Native.Nat.{ℕ, _≤_, _<_}
 use lib.ListN.{length, set}
+use Rattle.frames.specs.Line.{linesOf}
+use Rattle.frames.specs.Text.{readText}
+use Rattle.frames.specs.Process.{width, leaves, stateCount, modelOf}
+use Rattle.frames.specs.declared.text.Verdict.{Verdict}
+use Rattle.frames.specs.declared.text.Verdict.the-variants as text
 use Rattle.nodes.specs.Lookup.{Slices, numberOf as looked-number, valuesOf as looked-values}
 use Rattle.nodes.specs.declared.lookup.Looked.{Looked}
 use Rattle.verdicts.specs.Contract.{Values, valuesOf, Compared}
@@ -55,3 +60,21 @@ first-of (v ∷ vs) other = v
 
 abbrev pub numbered : Looked → ℕ
 numbered l = first-of (looked-values l) (looked-number l)
+
+-- ---- what a text's model is
+
+-- 0: the text is accepted, 2: it is refused
+abbrev pub readKind : Verdict → ℕ
+readKind text.Accepted = 0
+readKind (text.Refused number line) = 2
+
+-- the words for an accepted text: the bits of its model, its lines, the leaf uses and the states of its model, 0, 0; and for a refused one
+-- those of the same refusal by a comparison that has it on the left
+abbrev pub model-words : List ℕ → List ℕ → Verdict → List ℕ
+model-words words t text.Accepted = six words (width (modelOf t)) (length (linesOf t)) (leaves (modelOf t)) (stateCount (modelOf t)) 0 0
+model-words words t (text.Refused number line) = refusal-words words (valuesOf (Refused number 0 line))
+
+-- The contract of the exported call that tells what a text's model is. With fewer than six words for the answer it returns 3 and touches nothing.
+pub record Described (t words words′ : List ℕ) (returned : ℕ) : Type 0 where
+  pub short : length words < 6 → (returned ≡ 3) × (words′ ≡ words)
+  pub long : 6 ≤ length words → (returned ≡ readKind (readText t .verdict)) × (words′ ≡ model-words words t (readText t .verdict))

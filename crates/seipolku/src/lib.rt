@@ -1,4 +1,6 @@
-// The library for C and Rust: thin exports of the comparison and the look-up. A slice is a pointer and a length.
+// The library for C and Rust: thin exports of the comparison, the look-up and what a text's model is. A slice is a pointer and a length.
+pub mod model;
+
 ghost use mathlib.Core.Path.{_≡_};
 ghost use Prim.Native.Nat.{_≤_};
 ghost use lib.ListN.{length};

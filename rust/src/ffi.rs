@@ -1,0 +1,46 @@
+//! The functions of the static library, as `include/seipolku.h` declares them.
+
+extern "C" {
+    pub fn seipolku_compare(
+        left: *const u8,
+        left_len: usize,
+        right: *const u8,
+        right_len: usize,
+        mode: u64,
+        limit: u64,
+        level: *mut u8,
+        level_len: usize,
+        low: *mut u32,
+        low_len: usize,
+        high: *mut u32,
+        high_len: usize,
+        head: *mut u32,
+        head_len: usize,
+        next: *mut u32,
+        next_len: usize,
+        memo: *mut u32,
+        memo_len: usize,
+        answer: *mut u64,
+        answer_len: usize,
+    ) -> u64;
+
+    pub fn seipolku_look_up(
+        level: *const u8,
+        level_len: usize,
+        low: *const u32,
+        low_len: usize,
+        high: *const u32,
+        high_len: usize,
+        root: u64,
+        action: u64,
+        left_now: u64,
+        left_next: u64,
+        right_now: u64,
+        right_next: u64,
+    ) -> u64;
+
+    pub fn seipolku_model(text: *const u8, text_len: usize, answer: *mut u64, answer_len: usize) -> u64;
+}
+
+/// What a call returns with a refusal in its answer.
+pub const REFUSED: u64 = 2;

@@ -1,0 +1,117 @@
+//! Refusals, by document 01's numbers and in words.
+
+use std::fmt;
+
+/// Which text a refusal speaks of.
+#[derive(Clone, Copy, Debug, PartialEq, Eq)]
+pub enum Side {
+    Left,
+    Right,
+    Neither,
+}
+
+/// What is wrong, by document 01's numbers.
+#[derive(Clone, Copy, Debug, PartialEq, Eq)]
+pub enum Fault {
+    /// 1: an empty text, a byte that is no digit, an odd number of digits, or a line without its end.
+    Digits,
+    /// 2: a frame of fewer than 2 or more than 255 bytes.
+    Size,
+    /// 3: byte 0 is not the line's number, or there is a line 64.
+    LineNumber,
+    /// 4: an unknown kind, or a length that its kind can't have.
+    Kind,
+    /// 5: a state count, state, action, channel or operand out of range.
+    Range,
+    /// 6: more than 20 bits or 64 leaf uses.
+    Limits,
+    /// 7: a table that does not fit, or no such mode.
+    Table,
+    /// 8: more nodes needed than fit.
+    Full,
+    /// 9: no verdict by the limit.
+    Spent,
+    /// 10: a look-up's number out of range, or a walk that leaves the table or its order.
+    LookUp,
+}
+
+impl Fault {
+    /// Document 01's number.
+    pub fn number(self) -> u64 {
+        match self {
+            Fault::Digits => 1,
+            Fault::Size => 2,
+            Fault::LineNumber => 3,
+            Fault::Kind => 4,
+            Fault::Range => 5,
+            Fault::Limits => 6,
+            Fault::Table => 7,
+            Fault::Full => 8,
+            Fault::Spent => 9,
+            Fault::LookUp => 10,
+        }
+    }
+
+    pub(crate) fn of(number: u64) -> Fault {
+        match number {
+            1 => Fault::Digits,
+            2 => Fault::Size,
+            3 => Fault::LineNumber,
+            4 => Fault::Kind,
+            5 => Fault::Range,
+            6 => Fault::Limits,
+            7 => Fault::Table,
+            8 => Fault::Full,
+            9 => Fault::Spent,
+            _ => Fault::LookUp,
+        }
+    }
+
+    fn words(self) -> &'static str {
+        match self {
+            Fault::Digits => "not hexadecimal capitals, two digits a byte, in an ended line",
+            Fault::Size => "a frame has 2 to 255 bytes",
+            Fault::LineNumber => "byte 0 is not the line's number, or there are more than 64 lines",
+            Fault::Kind => "an unknown kind, or a length that its kind can't have",
+            Fault::Range => "a state count, state, action, channel or operand is out of range",
+            Fault::Limits => "the line's process has more than 20 bits or 64 leaf uses",
+            Fault::Table => "the table does not fit",
+            Fault::Full => "the comparison needs more nodes than fit into the table",
+            Fault::Spent => "no verdict within the limit of rounds",
+            Fault::LookUp => "a number out of range, or a walk that leaves the table",
+        }
+    }
+}
+
+/// A refusal: what is wrong, in which text, at which line (counted from 0).
+#[derive(Clone, Copy, Debug, PartialEq, Eq)]
+pub struct Refusal {
+    pub fault: Fault,
+    pub side: Side,
+    pub line: u64,
+}
+
+impl Refusal {
+    /// The refusal that the words of an answer tell.
+    pub(crate) fn of(answer: [u64; 6]) -> Refusal {
+        let side = match answer[1] {
+            0 => Side::Left,
+            1 => Side::Right,
+            _ => Side::Neither,
+        };
+        Refusal { fault: Fault::of(answer[0]), side, line: answer[2] }
+    }
+}
+
+impl fmt::Display for Refusal {
+    fn fmt(&self, f: &mut fmt::Formatter<'_>) -> fmt::Result {
+        let words = self.fault.words();
+        match self.side {
+            Side::Left => write!(f, "left model, line {}: {words}", self.line),
+            Side::Right => write!(f, "right model, line {}: {words}", self.line),
+            Side::Neither => f.write_str(words),
+        }
+    }
+}
+
+impl std::error::Error for Refusal {}

@@ -1,0 +1,257 @@
+//! Tables, comparisons on them, and what a verdict shows.
+
+use std::alloc::{alloc_zeroed, Layout};
+use std::fmt;
+
+use crate::ffi;
+use crate::refusal::{Fault, Refusal, Side};
+
+/// The most entries that a table may have.
+pub const MAX_TABLE: usize = 1 << 20;
+
+/// The kind of answer to a challenge.
+#[derive(Clone, Copy, Debug, PartialEq, Eq)]
+pub enum Mode {
+    /// One step with the same action.
+    Strong,
+    /// The same action with any internal steps around it, none at all for an internal step.
+    Weak,
+}
+
+impl Mode {
+    fn number(self) -> u64 {
+        match self {
+            Mode::Strong => 0,
+            Mode::Weak => 1,
+        }
+    }
+}
+
+/// Why there is no table.
+#[derive(Clone, Copy, Debug, PartialEq, Eq)]
+pub enum TableError {
+    /// A table has 2 to [`MAX_TABLE`] entries; with another length the library refuses every comparison with 7.
+    Length,
+    /// The memory for it could not be had.
+    Memory,
+}
+
+impl fmt::Display for TableError {
+    fn fmt(&self, f: &mut fmt::Formatter<'_>) -> fmt::Result {
+        f.write_str(match self {
+            TableError::Length => "a table has 2 to 1,048,576 entries",
+            TableError::Memory => "there is no memory for the table",
+        })
+    }
+}
+
+impl std::error::Error for TableError {}
+
+/// A table and the memory to work on it.
+pub struct Table {
+    level: Vec<u8>,
+    low: Vec<u32>,
+    high: Vec<u32>,
+    work: Vec<u32>,
+}
+
+impl fmt::Debug for Table {
+    fn fmt(&self, f: &mut fmt::Formatter<'_>) -> fmt::Result {
+        f.debug_struct("Table").field("entries", &self.level.len()).field("work", &self.work.len()).finish()
+    }
+}
+
+impl Table {
+    /// A table of so many entries, with work memory of the recommended length.
+    pub fn new(entries: usize) -> Result<Table, TableError> {
+        Table::with_work(entries, entries.saturating_mul(4))
+    }
+
+    /// A table with so many words for work, which holds the hash index and the computed table; the length changes the time and no
+    /// answer.
+    pub fn with_work(entries: usize, work: usize) -> Result<Table, TableError> {
+        if !(2..=MAX_TABLE).contains(&entries) {
+            return Err(TableError::Length);
+        }
+        Ok(Table { level: zeros(entries)?, low: zeros(entries)?, high: zeros(entries)?, work: zeros(work)? })
+    }
+
+    /// Compares the models of two texts, by the iterates up to the limit. The verdict borrows the table, which can't be used for
+    /// another comparison as long as something is looked up in this one:
+    ///
+    /// ```compile_fail,E0499
+    /// # use seipolku::{Mode, Table};
+    /// let mut table = Table::new(4096).unwrap();
+    /// let first = table.compare(b"000101\n", b"000101\n", Mode::Weak, 9).unwrap();
+    /// let second = table.compare(b"000102\n", b"000102\n", Mode::Weak, 9).unwrap();
+    /// first.related(0, 0).unwrap();
+    /// ```
+    ///
+    /// The same in an order that is possible:
+    ///
+    /// ```
+    /// # use seipolku::{Mode, Table};
+    /// let mut table = Table::new(4096).unwrap();
+    /// let first = table.compare(b"000101\n", b"000101\n", Mode::Weak, 9).unwrap();
+    /// first.related(0, 0).unwrap();
+    /// let second = table.compare(b"000102\n", b"000102\n", Mode::Weak, 9).unwrap();
+    /// second.related(0, 0).unwrap();
+    /// ```
+    pub fn compare(
+        &mut self,
+        left: &[u8],
+        right: &[u8],
+        mode: Mode,
+        limit: u64,
+    ) -> Result<Verdict<'_>, Refusal> {
+        let mut answer = [0u64; 6];
+        let kind = self.call([left, right], mode, limit, &mut answer);
+        if kind == ffi::REFUSED {
+            return Err(Refusal::of(answer));
+        }
+        let root = |entry| Root { table: self, entry };
+        Ok(Verdict {
+            left: root(answer[0]),
+            right: root(answer[1]),
+            largest: (kind == 0).then_some(root(answer[2])),
+            rounds: answer[3],
+            nodes: answer[4],
+        })
+    }
+
+    fn call(&mut self, [left, right]: [&[u8]; 2], mode: Mode, limit: u64, answer: &mut [u64; 6]) -> u64 {
+        // SAFETY: each pointer comes with the length of the slice that it points to; the slices are apart, and the library
+        // writes to those that are lent as mutable only.
+        unsafe {
+            ffi::seipolku_compare(
+                left.as_ptr(),
+                left.len(),
+                right.as_ptr(),
+                right.len(),
+                mode.number(),
+                limit,
+                self.level.as_mut_ptr(),
+                self.level.len(),
+                self.low.as_mut_ptr(),
+                self.low.len(),
+                self.high.as_mut_ptr(),
+                self.high.len(),
+                std::ptr::null_mut(),
+                0,
+                std::ptr::null_mut(),
+                0,
+                self.work.as_mut_ptr(),
+                self.work.len(),
+                answer.as_mut_ptr(),
+                answer.len(),
+            )
+        }
+    }
+}
+
+/// So many zeros, which the system hands out as they are first used.
+fn zeros<T: Number>(len: usize) -> Result<Vec<T>, TableError> {
+    let layout = Layout::array::<T>(len).map_err(|_| TableError::Memory)?;
+    if layout.size() == 0 {
+        return Ok(Vec::new());
+    }
+    // SAFETY: the layout has a size; it is that of a vector with this capacity; and bytes of 0 are a number.
+    unsafe {
+        let start = alloc_zeroed(layout).cast::<T>();
+        match start.is_null() {
+            true => Err(TableError::Memory),
+            false => Ok(Vec::from_raw_parts(start, len, len)),
+        }
+    }
+}
+
+/// The types of which bytes of 0 are a value.
+trait Number {}
+impl Number for u8 {}
+impl Number for u32 {}
+
+/// An entry of the table that a verdict left. It borrows that table, so it is looked up there and as long as the verdict stands:
+///
+/// ```compile_fail,E0499
+/// # use seipolku::{Mode, Table};
+/// let mut table = Table::new(4096).unwrap();
+/// let root = table.compare(b"000101\n", b"000101\n", Mode::Weak, 9).unwrap().left;
+/// std::mem::swap(&mut table, &mut Table::new(4096).unwrap());
+/// root.look_up(0, [0; 4]).unwrap();
+/// ```
+#[derive(Clone, Copy)]
+pub struct Root<'t> {
+    table: &'t Table,
+    entry: u64,
+}
+
+impl fmt::Debug for Root<'_> {
+    fn fmt(&self, f: &mut fmt::Formatter<'_>) -> fmt::Result {
+        f.debug_tuple("Root").field(&self.entry).finish()
+    }
+}
+
+impl Root<'_> {
+    /// The value at an action and four state codes: left now and next, right now and next. Refused with 10 where the action is above
+    /// 63 or a code has more than 20 bits.
+    pub fn look_up(&self, action: u64, codes: [u64; 4]) -> Result<bool, Refusal> {
+        let Table { level, low, high, .. } = self.table;
+        // SAFETY: as in `Table::call`; nothing is written.
+        let value = unsafe {
+            ffi::seipolku_look_up(
+                level.as_ptr(),
+                level.len(),
+                low.as_ptr(),
+                low.len(),
+                high.as_ptr(),
+                high.len(),
+                self.entry,
+                action,
+                codes[0],
+                codes[1],
+                codes[2],
+                codes[3],
+            )
+        };
+        match value {
+            0 => Ok(false),
+            1 => Ok(true),
+            number => Err(Refusal { fault: Fault::of(number), side: Side::Neither, line: 0 }),
+        }
+    }
+}
+
+/// A verdict, with the roots of what its table shows.
+#[derive(Clone, Copy, Debug)]
+pub struct Verdict<'t> {
+    /// The relation of the left model: its derived steps.
+    pub left: Root<'t>,
+    /// The relation of the right model.
+    pub right: Root<'t>,
+    /// The largest bisimulation, where the models are equal.
+    pub largest: Option<Root<'t>>,
+    pub rounds: u64,
+    pub nodes: u64,
+}
+
+impl Verdict<'_> {
+    pub fn equal(&self) -> bool {
+        self.largest.is_some()
+    }
+
+    /// Whether the left model has the step with this action from the state `now` to the state `next`.
+    pub fn left_steps(&self, action: u64, now: u64, next: u64) -> Result<bool, Refusal> {
+        self.left.look_up(action, [now, next, 0, 0])
+    }
+
+    /// The same of the right model.
+    pub fn right_steps(&self, action: u64, now: u64, next: u64) -> Result<bool, Refusal> {
+        self.right.look_up(action, [0, 0, now, next])
+    }
+
+    /// Whether the largest bisimulation holds the pair of states; nothing where the models are different, since the table then shows
+    /// no bisimulation.
+    pub fn related(&self, left: u64, right: u64) -> Result<Option<bool>, Refusal> {
+        self.largest.map(|root| root.look_up(0, [left, 0, right, 0])).transpose()
+    }
+}

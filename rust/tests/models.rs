@@ -1,0 +1,152 @@
+//! What the model of a text is: stored texts, and the leaves' places against look-ups.
+
+use seipolku::frames::{Frame, Lines};
+use seipolku::{model, LeafUse, Mode, Model, Side, Table};
+use std::fs;
+use std::path::PathBuf;
+
+fn repository(file: &str) -> PathBuf {
+    PathBuf::from(env!("CARGO_MANIFEST_DIR")).join("..").join(file)
+}
+
+fn leaf(line: usize, shift: u32, width: u32, states: u64) -> LeafUse {
+    LeafUse { line, shift, width, states }
+}
+
+#[test]
+fn a_stored_model() {
+    let text = fs::read(repository("models/gas_closed_right.hex")).unwrap();
+    let Model { bits, lines, uses, states, leaves } = model(&text).unwrap();
+    assert_eq!((bits, lines, uses, states), (14, 20, 5, 2700));
+    let states: Vec<u64> = leaves.iter().map(|l| l.states).collect();
+    assert_eq!(states.iter().product::<u64>(), 2700);
+    assert_eq!(leaves.iter().map(|l| l.width).sum::<u32>(), 14);
+}
+
+#[test]
+fn one_state() {
+    let expected = Model { bits: 0, lines: 1, uses: 1, states: 1, leaves: vec![leaf(0, 0, 0, 1)] };
+    assert_eq!(model(b"000101\n").unwrap(), expected);
+    assert_eq!(expected.leaves[0].state(12345), 0);
+}
+
+/// The model is the last line's process: earlier lines that it does not use count as lines only.
+#[test]
+fn unused_lines() {
+    let found = model(b"000140\n010105\n02030101\n").unwrap();
+    assert_eq!(found, Model { bits: 3, lines: 3, uses: 1, states: 5, leaves: vec![leaf(1, 0, 3, 5)] });
+}
+
+/// The texts and the answer of each stored vector.
+fn vectors() -> Vec<([Vec<u8>; 2], Vec<String>)> {
+    let files = ["tests/vectors.tsv", "models/vectors.tsv"];
+    let all = files.map(|file| fs::read_to_string(repository(file)).unwrap()).concat();
+    let vector = |line: &str| {
+        let fields: Vec<&str> = line.split('\t').collect();
+        ([text(fields[1]), text(fields[2])], fields[6].split(' ').map(str::to_string).collect())
+    };
+    all.lines().filter(|line| !line.is_empty() && !line.starts_with('#')).map(vector).collect()
+}
+
+/// Numbers and lines of the refusals that stand in the vectors; their other texts are accepted.
+#[test]
+fn stored_texts() {
+    let (mut refused, mut accepted) = (0, 0);
+    for (texts, answer) in vectors() {
+        let number = |place: usize| answer[place].parse::<u64>().unwrap();
+        match (answer[0].as_str(), number(1)) {
+            ("refused", 7) => continue,
+            ("refused", 1..=6) => {
+                let refusal = model(&texts[number(2) as usize]).unwrap_err();
+                let found = (refusal.fault.number(), refusal.side, refusal.line);
+                assert_eq!(found, (number(1), Side::Left, number(3)));
+                refused += 1;
+            }
+            _ => {
+                assert!(texts.iter().all(|text| model(text).is_ok()));
+                accepted += 1;
+            }
+        }
+    }
+    assert!(refused > 50 && accepted > 50, "{refused} refused, {accepted} accepted");
+}
+
+/// A text with one byte changed is refused as a comparison refuses it on the left, beside an empty text.
+#[test]
+fn changed_texts() {
+    let mut table = Table::new(2).unwrap();
+    let mut accepted = 0;
+    for (place, ([mut text, _], _)) in vectors().into_iter().enumerate() {
+        for at in (place % 5..text.len()).step_by(5) {
+            let before = std::mem::replace(&mut text[at], b"01F\na"[(place + at) % 5]);
+            let beside = table.compare(&text, b"", Mode::Strong, 0).unwrap_err();
+            let alone = model(&text);
+            assert_eq!(alone.as_ref().err(), Some(&beside).filter(|r| r.side == Side::Left));
+            accepted += u64::from(alone.is_ok());
+            text[at] = before;
+        }
+    }
+    assert!(accepted > 100, "{accepted}");
+}
+
+/// `/` stands for byte 0A and `\xHH` for byte HH.
+fn text(field: &str) -> Vec<u8> {
+    let mut bytes = Vec::new();
+    let mut rest = field.as_bytes();
+    while let Some((first, tail)) = rest.split_first() {
+        rest = tail;
+        match first {
+            b'/' => bytes.push(b'\n'),
+            b'\\' => {
+                bytes.push(u8::from_str_radix(std::str::from_utf8(&rest[1..3]).unwrap(), 16).unwrap());
+                rest = &rest[3..];
+            }
+            other => bytes.push(*other),
+        }
+    }
+    bytes
+}
+
+/// Leaves of 3, 1 and 5 states that never meet, put together so that their order in the code is not that of the lines.
+const MIXED: &[u8] = b"000103000201010202\n010101000400\n020105000601010604\n03020200\n04060100\n05020304\n";
+
+#[test]
+fn places() {
+    let Model { bits, lines, uses, states, leaves } = model(MIXED).unwrap();
+    assert_eq!((bits, lines, uses, states), (7, 6, 4, 45));
+    assert_eq!(leaves, [leaf(2, 0, 3, 5), leaf(0, 3, 2, 3), leaf(1, 5, 0, 1), leaf(0, 5, 2, 3)]);
+}
+
+/// Each leaf use alone moves its own bits, and nothing else moves: so the library's code has the places that were told.
+#[test]
+fn places_by_look_ups() {
+    let found = model(MIXED).unwrap();
+    let lines = Lines::decode(MIXED).unwrap();
+    let mut table = Table::new(4096).unwrap();
+    let verdict = table.compare(MIXED, b"000101\n", Mode::Strong, 1_000_000).unwrap();
+    let mut steps = 0;
+    for now in (0..1 << found.bits).filter(|code| found.leaves.iter().all(|l| l.state(*code) < l.states)) {
+        let expected = moved(&found, &lines, now);
+        for action in 0..64 {
+            for next in 0..1 << found.bits {
+                let holds = verdict.left_steps(action, now, next).unwrap();
+                assert_eq!(holds, expected.contains(&(action, next)), "{now} {action} {next}");
+                steps += u64::from(holds);
+            }
+        }
+    }
+    assert_eq!(steps, 45 / 5 * 2 + 2 * (45 / 3 * 2) + 45);
+}
+
+/// The steps of a code by action and next code, where the leaves never meet.
+fn moved(found: &Model, lines: &Lines, now: u64) -> Vec<(u64, u64)> {
+    let mut steps = Vec::new();
+    for leaf in &found.leaves {
+        let Frame::Leaf { triples, .. } = &lines.frames[leaf.line] else { panic!("not a leaf") };
+        for triple in triples.iter().filter(|t| u64::from(t.from) == leaf.state(now)) {
+            let others = now - (leaf.state(now) << leaf.shift);
+            steps.push((u64::from(triple.action), others + (u64::from(triple.to) << leaf.shift)));
+        }
+    }
+    steps
+}
