@@ -1,5 +1,7 @@
-/* The same pairs through the library and through BuDDy, in one process: CPU seconds and their ratio.
-   bench LEFT RIGHT MODE [TABLE [WORK]]: one line, tab-separated: verdict rounds nodes seconds(library) seconds(BuDDy) ratio nodes/s. */
+/* The same pairs through the library and through BuDDy: CPU seconds and their ratio.
+   bench warm LEFT RIGHT MODE TABLE: nine turns in one process, the medians. One line, tab-separated: verdict rounds nodes
+       seconds(library) seconds(BuDDy, each cache) ratio(to the faster BuDDy) nodes/s.
+   bench SIDE LEFT RIGHT MODE TABLE, with SIDE library, small or large: one call in a new process, with what it allocates: its seconds. */
 #include "../include/seipolku.h"
 #include "buddy.h"
 #include <stdio.h>
@@ -7,33 +9,74 @@
 #include <string.h>
 #include <time.h>
 
+/* How often each side runs, in turn; the median counts. */
+enum { TURNS = 9 };
+
+/* BuDDy with a small and with a large cache of results: its faster one counts. */
+enum { CACHES = 2 };
+static const char *const cache_name[CACHES] = {"small", "large"};
+
+static int cache_of(int k, size_t table) { return (int)(k ? 2 * table : table / 2); }
+
+typedef struct { unsigned char *text; size_t len; } Text;
+typedef struct { Text left, right; int mode; size_t table; } Pair;
+typedef struct { uint8_t *level; uint32_t *low, *high, *work; } Table;
+typedef struct { int equal; uint64_t rounds, nodes; } Result;
+
 static double now(void) {
     struct timespec t;
     clock_gettime(CLOCK_PROCESS_CPUTIME_ID, &t);
     return (double)t.tv_sec + 1e-9 * (double)t.tv_nsec;
 }
 
-static unsigned char *read_file(const char *path, size_t *len) {
+static Text read_file(const char *path) {
     FILE *f = fopen(path, "rb");
     if (!f) {
         perror(path);
         exit(2);
     }
-    unsigned char *text = malloc(65536);
-    *len = fread(text, 1, 65536, f);
+    Text t = {malloc(65536), 0};
+    t.len = fread(t.text, 1, 65536, f);
     fclose(f);
-    return text;
+    return t;
 }
 
-/* How often each side runs, in turn; the median counts. */
-enum { TURNS = 9 };
+static Table new_table(size_t len) {
+    return (Table){malloc(len), malloc(4 * len), malloc(4 * len), malloc(16 * len)};
+}
 
-typedef struct { uint8_t *level; uint32_t *low, *high, *work; size_t len, work_len; } Table;
+static Result by_library(const Pair *p, Table t) {
+    uint64_t answer[6];
+    uint64_t kind = seipolku_compare(p->left.text, p->left.len, p->right.text, p->right.len, (uint64_t)p->mode, 1000000, t.level, p->table, t.low, p->table,
+                                     t.high, p->table, NULL, 0, NULL, 0, t.work, 4 * p->table, answer, 6);
+    if (kind > 1) {
+        printf("refused %lu\n", (unsigned long)answer[0]);
+        exit(1);
+    }
+    return (Result){kind == 0, answer[3], answer[4]};
+}
 
-static Table new_table(size_t len, size_t work_len) {
-    Table t = {malloc(len), malloc(4 * len), malloc(4 * len), malloc(4 * work_len), len, work_len};
-    memset(t.level, 0xA5, len), memset(t.low, 0xA5, 4 * len), memset(t.high, 0xA5, 4 * len), memset(t.work, 0xA5, 4 * work_len);
-    return t;
+static Result by_buddy(const Pair *p) {
+    Buddy b = buddy_compare(p->left.text, p->left.len, p->right.text, p->right.len, p->mode);
+    return (Result){b.equal, b.rounds, 0};
+}
+
+static void must_agree(Result a, Result b) {
+    if (a.equal == b.equal && a.rounds == b.rounds && a.nodes == b.nodes) return;
+    printf("DISAGREE: library %d %lu %lu, BuDDy %d %lu %lu\n", a.equal, (unsigned long)a.rounds, (unsigned long)a.nodes, b.equal, (unsigned long)b.rounds,
+           (unsigned long)b.nodes);
+    exit(1);
+}
+
+static double buddy_turn(const Pair *p, int cache, Result ours) {
+    buddy_start((int)(2 * p->table), cache);
+    double a = now();
+    Result r = by_buddy(p);
+    double seconds = now() - a;
+    r.nodes = (uint64_t)buddy_nodes();
+    buddy_end();
+    must_agree(ours, r);
+    return seconds;
 }
 
 static int by_value(const void *a, const void *b) {
@@ -46,43 +89,41 @@ static double median(double *times) {
     return times[TURNS / 2];
 }
 
-int main(int argc, char **argv) {
-    if (argc < 4) {
-        fprintf(stderr, "usage: %s LEFT RIGHT MODE [TABLE [WORK]] (entries of the table, words for work)\n", argv[0]);
-        return 2;
-    }
-    size_t left_len, right_len;
-    unsigned char *left = read_file(argv[1], &left_len), *right = read_file(argv[2], &right_len);
-    int mode = atoi(argv[3]);
-    size_t len = argc > 4 ? strtoul(argv[4], NULL, 10) : 1048576;
-    Table t = new_table(len, argc > 5 ? strtoul(argv[5], NULL, 10) : 4 * len);
-    double ours[TURNS], theirs[TURNS];
-    uint64_t kind = 0, answer[6];
-
+static int warm(const Pair *p) {
+    double ours[TURNS], theirs[CACHES][TURNS], buddy[CACHES];
+    Table t = new_table(p->table);
+    memset(t.level, 0xA5, p->table), memset(t.low, 0xA5, 4 * p->table), memset(t.high, 0xA5, 4 * p->table), memset(t.work, 0xA5, 16 * p->table);
+    Result r = {0, 0, 0};
     for (int turn = 0; turn < TURNS; turn++) {
         double a = now();
-        kind = seipolku_compare(left, left_len, right, right_len, (uint64_t)mode, 1000000, t.level, t.len, t.low, t.len, t.high, t.len, NULL, 0, NULL,
-                                0, t.work, t.work_len, answer, 6);
+        r = by_library(p, t);
         ours[turn] = now() - a;
-        if (kind > 1) {
-            printf("refused %lu\n", (unsigned long)answer[0]);
-            return 1;
-        }
-
-        buddy_start((int)(2 * t.len), (int)(t.len / 2));
-        a = now();
-        Buddy b = buddy_compare(left, left_len, right, right_len, mode);
-        theirs[turn] = now() - a;
-        int nodes = buddy_nodes();
-        buddy_end();
-        if (b.equal != (kind == 0) || b.rounds != answer[3] || (uint64_t)nodes != answer[4]) {
-            printf("DISAGREE: library %lu %lu %lu, BuDDy %d %llu %d\n", (unsigned long)kind, (unsigned long)answer[3], (unsigned long)answer[4], !b.equal,
-                   b.rounds, nodes);
-            return 1;
-        }
+        for (int k = 0; k < CACHES; k++) theirs[k][turn] = buddy_turn(p, cache_of(k, p->table), r);
     }
-    double mine = median(ours), his = median(theirs);
-    printf("%s\t%lu\t%lu\t%.5f\t%.5f\t%.2f\t%.0f\n", kind ? "different" : "equal", (unsigned long)answer[3], (unsigned long)answer[4], mine, his, mine / his,
-           (double)answer[4] / mine);
+    double mine = median(ours);
+    for (int k = 0; k < CACHES; k++) buddy[k] = median(theirs[k]);
+    printf("%s\t%lu\t%lu\t%.5f\t%.5f\t%.5f\t%.2f\t%.0f\n", r.equal ? "equal" : "different", (unsigned long)r.rounds, (unsigned long)r.nodes, mine, buddy[0],
+           buddy[1], mine / (buddy[0] < buddy[1] ? buddy[0] : buddy[1]), (double)r.nodes / mine);
     return 0;
+}
+
+static int cold(const Pair *p, const char *side) {
+    double a = now();
+    if (strcmp(side, "library") == 0) {
+        by_library(p, new_table(p->table));
+    } else {
+        buddy_start((int)(2 * p->table), cache_of(strcmp(side, cache_name[0]) != 0, p->table));
+        by_buddy(p);
+    }
+    printf("%.5f\n", now() - a);
+    return 0;
+}
+
+int main(int argc, char **argv) {
+    if (argc != 6) {
+        fprintf(stderr, "usage: %s warm|library|%s|%s LEFT RIGHT MODE TABLE (entries of the table)\n", argv[0], cache_name[0], cache_name[1]);
+        return 2;
+    }
+    Pair p = {read_file(argv[2]), read_file(argv[3]), atoi(argv[4]), strtoul(argv[5], NULL, 10)};
+    return strcmp(argv[1], "warm") == 0 ? warm(&p) : cold(&p, argv[1]);
 }

@@ -17,13 +17,12 @@ use Rattle.nodes.specs.Fun.{Fun}
 use Rattle.nodes.specs.Table.{Table, maxLength}
 use Rattle.nodes.specs.internal.Packed.{packing, levels, lows, packed-table}
 use Rattle.nodes.specs.internal.Parts.{covers, hashes, headsAt, memoryAt, linksIn, headsIn, memoIn}
-use Rattle.nodes.specs.internal.Index.{hashOf, coverage, Indexed, Indexing, Linked, Linking}
+use Rattle.nodes.specs.internal.Index.{hashOf, coverage, Indexed, Indexing, Linked, Linking, Begins}
 use Rattle.nodes.specs.internal.Make.{Makeable, IsNode, Finds, nodeFun, Makes, Making, MadeFull}
 use Rattle.nodes.specs.internal.Operate.{cofactorOf, slotsIn, Holds, Stores, Keeping, Finishing}
 use Rattle.nodes.specs.internal.Work.{isDeeper}
-use Rattle.nodes.proofs.Funs.{by-eq}
 use Rattle.nodes.proofs.Parting.{packed-level, packed-low, packed-again, levels-length, level-at, low-at, levels-set, lows-set, links-length, heads-length, memo-length, link-at, head-at, memo-at, same-covers, same-hashes, same-memory, links-set-link, heads-set-link, memo-set-link, links-set-head, heads-set-head, memo-set-head, links-set-memo, heads-set-memo, memo-set-memo}
-use Rattle.nodes.proofs.Indexing.{coverage-none, coverage-some, Chained, chained-start, chained-next, chain-falls, chain-within, linked-none, linked-at}
+use Rattle.nodes.proofs.Indexing.{coverage-none, coverage-some, coverage-le, Chained, chained-start, chained-next, chain-falls, chain-within, linked-none, linked-at}
 use Rattle.nodes.proofs.Making.{made-new, made-linked, made-full}
 
 -- ---- entries
@@ -67,22 +66,18 @@ module _ (work : List ℕ) where
   pub work-coverage : (hashes work ≡ 0 → ⊥) → coverage (headsIn work) (linksIn work) ≡ covers work
   work-coverage n = coverage-some (headsIn work) (linksIn work) (λ e. n (sym (heads-length work) ∙ e)) ∙ links-length work
 
-  -- an index that covers an entry has a head, and a link for it
-  module _ (i : ℕ) (inside : i < coverage (headsIn work) (linksIn work)) where
-    pub covered-head : 0 < hashes work
-    covered-head = by-eq (0 < hashes work) (hashes work) 0 (λ e. absurd (let z = work-uncovered e in omega arith)) (λ n. omega arith)
-
-    pub covered-link : i < covers work
-    covered-link = subst (λ (n : ℕ). i < n) (work-coverage (λ e. let h = covered-head in omega arith)) inside
+-- the hash of a node whose chain begins at a head is that of a head
+hash-below : (work : List ℕ) (v lo hi head : ℕ) → 0 < head → Begins work v lo hi head → hashOf v lo hi (hashes work) < hashes work
+hash-below work v lo hi head some b = let e = b .place some in let l = b .in-index .to some in omega arith
 
 module _ (t : Table) (work : List ℕ) (v lo hi : ℕ) (ok : Indexing t work) where
-  pub work-start : (n k h : ℕ) → n ≡ hashes work → k ≡ covers work → h ≡ hashOf v lo hi n → h < n
-      → Chained t (headsIn work) (linksIn work) v lo hi (getD work (1 + k + h) 0)
-  work-start n k h en ek e l =
-      let d = en ∙ sym (heads-length work) in
-      let at = head-at work h (subst (λ (m : ℕ). h < m) en l) ∙ ap (λ (c : ℕ). getD work (1 + c + h) 0) (sym ek) in
-      subst (Chained t (headsIn work) (linksIn work) v lo hi) at
-      (chained-start t (headsIn work) (linksIn work) v lo hi ok h (subst (λ (n : ℕ). h ≡ hashOf v lo hi n) d e) (subst (λ (n : ℕ). h < n) d l))
+  pub work-start : (head : ℕ) → 0 < head → Begins work v lo hi head → Chained t (headsIn work) (linksIn work) v lo hi (getD work head 0)
+  work-start head some b =
+      let n = heads-length work in
+      let h = hashOf v lo hi (hashes work) in
+      let below = hash-below work v lo hi head some b in
+      subst (Chained t (headsIn work) (linksIn work) v lo hi) (head-at work h below ∙ ap (λ (i : ℕ). getD work i 0) (sym (b .place some)))
+      (chained-start t (headsIn work) (linksIn work) v lo hi ok h (ap (hashOf v lo hi) (sym n)) (subst (λ (m : ℕ). h < m) (sym n) below))
 
   module _ (i : ℕ) (two : 2 ≤ i) (c : Chained t (headsIn work) (linksIn work) v lo hi i) where
     pub work-within : i < covers work
@@ -96,8 +91,15 @@ module _ (t : Table) (work : List ℕ) (v lo hi : ℕ) (ok : Indexing t work) wh
         (chained-next t (headsIn work) (linksIn work) v lo hi ok i two other c)
 
 module _ (work : List ℕ) (used v lo hi : ℕ) where
-  pub work-unlinked : coverage (headsIn work) (linksIn work) ≤ used → Linking work used v lo hi work
-  work-unlinked out = (linked-none (headsIn work) (linksIn work) used v lo hi out, refl)
+  unlinked : coverage (headsIn work) (linksIn work) ≤ used → Linking work used v lo hi work
+  unlinked out = (linked-none (headsIn work) (linksIn work) used v lo hi out, refl)
+
+  -- there is no head, or no link for the node
+  pub headless : hashes work ≡ 0 → Linking work used v lo hi work
+  headless e = unlinked (let z = work-uncovered work e in omega arith)
+
+  pub uncovered : covers work ≤ used → Linking work used v lo hi work
+  uncovered out = unlinked (let l = coverage-le (headsIn work) (linksIn work) in let m = links-length work in omega arith)
 
   module _ (h : ℕ) (inside : used < covers work) (hash : h ≡ hashOf v lo hi (hashes work)) (below : h < hashes work) where
     old : ℕ
@@ -146,11 +148,11 @@ module _ (work : List ℕ) (used v lo hi : ℕ) where
           memo-is,
         )
 
-  pub work-linked : (n k h : ℕ) → n ≡ hashes work → k ≡ covers work → used < coverage (headsIn work) (linksIn work) → h ≡ hashOf v lo hi n → h < n
-      → Linking work used v lo hi (set (set work (1 + used) (getD work (1 + k + h) 0)) (1 + k + h) used)
-  work-linked n k h en ek inside e l =
-      subst (λ (c : ℕ). Linking work used v lo hi (set (set work (1 + used) (getD work (1 + c + h) 0)) (1 + c + h) used)) (sym ek)
-      (linked h (covered-link work used inside) (subst (λ (m : ℕ). h ≡ hashOf v lo hi m) en e) (subst (λ (m : ℕ). h < m) en l))
+  pub work-linked : (head : ℕ) → 0 < head → used < covers work → Begins work v lo hi head
+      → Linking work used v lo hi (set (set work (1 + used) (getD work head 0)) head used)
+  work-linked head some inside b =
+      subst (λ (i : ℕ). Linking work used v lo hi (set (set work (1 + used) (getD work i 0)) i used)) (sym (b .place some))
+      (linked _ inside refl (hash-below work v lo hi head some b))
 
 -- ---- the memory of results
 

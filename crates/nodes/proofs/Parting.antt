@@ -90,7 +90,7 @@ module _ (work : List ℕ) where
 
     pub same-hashes : hashes (set work i x) ≡ hashes work
     unfolding hashes
-    same-hashes = ap₂ (λ (n c : ℕ). (n - 1 - c) / 3) (length-set work i x) same-covers
+    same-hashes = ap₂ (λ (n c : ℕ). (n - 1 - c) / 2) (length-set work i x) same-covers
 
     pub same-memory : memoryAt (set work i x) ≡ memoryAt work
     same-memory = ap₂ (λ (c h : ℕ). 1 + c + h) same-covers same-hashes

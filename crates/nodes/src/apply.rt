@@ -12,6 +12,7 @@ ghost use Rattle.nodes.specs.internal.Make.{Makeable, nodeFun};
 ghost use Rattle.nodes.specs.internal.Lent.{table-of, table-in};
 use super::computed::recall;
 use super::computed::remember;
+use super::computed::slot_for;
 use super::limits::MAX_LENGTH;
 use super::unique::Found;
 use super::unique::Made;
@@ -190,7 +191,7 @@ fn split_at_top(packed: &[u32], high: &[u32], used: u32, op: u32, f: u32, g: u32
     }
 }
 
-// Makes the node of v, a and b, and remembers it as the result of an operation.
+// Makes the node of v, a and b, and remembers it in slot s as the result of an operation.
 fn finish(
     packed: &mut [u32],
     high: &mut [u32],
@@ -199,6 +200,7 @@ fn finish(
     v: u8,
     a: u32,
     b: u32,
+    s: usize,
     op: u32,
     f: u32,
     g: u32,
@@ -211,7 +213,7 @@ fn finish(
     let Made::At(i, n) = make(packed, high, work, used, v, a, b) else {
         return Made::Full;
     };
-    remember(work, op, f, g, i);
+    remember(work, s, op, f, g, i);
     Made::At(i, n)
 }
 
@@ -242,17 +244,18 @@ pub fn operate(
     let turned = turns(op, f, g);
     let x = pick(turned, g, f);
     let y = pick(turned, f, g);
-    if let Found::At(k) = recall(work, op, x, y) {
+    let s = slot_for(work, op, x, y);
+    if let Found::At(k) = recall(work, s, op, x, y) {
         return Made::At(k, used);
     }
-    let s = split_at_top(packed, high, used, op, f, g);
-    let Made::At(a, n) = operate(packed, high, work, used, op, s.f0, s.g0) else {
+    let c = split_at_top(packed, high, used, op, f, g);
+    let Made::At(a, n) = operate(packed, high, work, used, op, c.f0, c.g0) else {
         return Made::Full;
     };
-    let Made::At(b, m) = operate(packed, high, work, n, op, s.f1, s.g1) else {
+    let Made::At(b, m) = operate(packed, high, work, n, op, c.f1, c.g1) else {
         return Made::Full;
     };
-    finish(packed, high, work, m, s.v, a, b, op, x, y)
+    finish(packed, high, work, m, c.v, a, b, s, op, x, y)
 }
 
 // x where b is true, and else y.

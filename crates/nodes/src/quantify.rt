@@ -11,12 +11,12 @@ use super::apply::high_cofactor;
 use super::apply::level_of;
 use super::apply::low_cofactor;
 use super::apply::operate;
-use super::computed::write_slot;
+use super::computed::remember;
+use super::computed::slot_for;
 use super::limits::LAST_LEVEL;
 use super::unique::Made;
 use super::unique::make;
 use super::work::memory_at;
-use super::work::slot;
 use super::work::slots;
 
 // The entries of a function with a level fixed to 0, fixed to 1, and of the ∨ of the two.
@@ -51,16 +51,15 @@ fn number_of(v: u8, f: u32) -> u32
     FIRST_NUMBER + (v as u32) + f * LEVELS_EACH
 }
 
-// The results of ∃v f, where the memory has them.
-fn recall_three(work: &[u32], v: u8, f: u32) -> Held
+// The results of ∃v f, where slot s of the memory has them.
+fn recall_three(work: &[u32], s: usize, v: u8, f: u32) -> Held
     requires { ⌜ (v ≤ lastLevel) × (f < maxLength) ⌝ }
     ensures { λ r. ⌜ RecalledThree (memoIn (now (work .entry))) (quantifying v f) r ⌝ }
 {
-    let n = slots(work);
-    if n == 0 {
+    if slots(work) <= s {
         return Held::Nothing;
     }
-    let at = memory_at(work) + 4 * slot(v as u32, f, 0, n);
+    let at = memory_at(work) + 4 * s;
     if work[at] == number_of(v, f) + 1 {
         return Held::At(Trio {
             zero: work[at + 1],
@@ -71,18 +70,13 @@ fn recall_three(work: &[u32], v: u8, f: u32) -> Held
     Held::Nothing
 }
 
-// Puts the results of ∃v f into the memory.
-fn remember_three(work: &mut [u32], v: u8, f: u32, r: Trio)
+// Writes the results of ∃v f to slot s of the memory, if it has that slot.
+fn remember_three(work: &mut [u32], s: usize, v: u8, f: u32, r: Trio)
     requires { ⌜ (v ≤ lastLevel) × (f < maxLength) ⌝ }
     ensures { λ _. ⌜ Keeping (now (work .entry)) (quantifying v f) (r .zero) (r .one) (r .any) (now (work .exit)) ⌝ }
 {
-    let n = slots(work);
-    if n == 0 {
-        return;
-    }
-    let s = slot(v as u32, f, 0, n);
     let number = number_of(v, f);
-    write_slot(work, s, number, r.zero, r.one, r.any);
+    remember(work, s, number, r.zero, r.one, r.any);
 }
 
 // Makes the three nodes of level l whose children are the entries of a and of b.
@@ -111,7 +105,7 @@ fn make_three(
     Three::At(Trio { zero, one, any }, k)
 }
 
-// Makes them, and remembers them as the results of ∃v f.
+// Makes them, and remembers them in slot s as the results of ∃v f.
 fn finish_three(
     packed: &mut [u32],
     high: &mut [u32],
@@ -120,6 +114,7 @@ fn finish_three(
     l: u8,
     a: Trio,
     b: Trio,
+    s: usize,
     v: u8,
     f: u32,
 ) -> Three
@@ -131,7 +126,7 @@ fn finish_three(
     let Three::At(r, n) = make_three(packed, high, work, used, l, a, b) else {
         return Three::Full;
     };
-    remember_three(work, v, f, r);
+    remember_three(work, s, v, f, r);
     Three::At(r, n)
 }
 
@@ -185,7 +180,8 @@ pub(crate) fn quantify(
     if v <= l {
         return settle_three(packed, high, work, used, v, f, l);
     }
-    if let Held::At(r) = recall_three(work, v, f) {
+    let s = slot_for(work, v as u32, f, 0);
+    if let Held::At(r) = recall_three(work, s, v, f) {
         return Three::At(r, used);
     }
     let f0 = low_cofactor(packed, f, l);
@@ -196,7 +192,7 @@ pub(crate) fn quantify(
     let Three::At(b, m) = quantify(packed, high, work, n, v, f1) else {
         return Three::Full;
     };
-    finish_three(packed, high, work, m, l, a, b, v, f)
+    finish_three(packed, high, work, m, l, a, b, s, v, f)
 }
 
 // The ∨ alone of the answer of ∃.

@@ -2,7 +2,7 @@
 ghost use Prim.Native.Nat.{_<_};
 ghost use Rattle.nodes.specs.internal.Parts.{linksIn, headsIn};
 ghost use Rattle.nodes.specs.Table.{maxLength, WellFormed};
-ghost use Rattle.nodes.specs.internal.Index.{coverage, Indexing, Linking};
+ghost use Rattle.nodes.specs.internal.Index.{coverage, Indexing, InIndex, Begins, LinkingAt};
 ghost use Rattle.nodes.specs.internal.Make.{Makeable, FindsFrom, FindsBelow, Finds, Making, nodeFun};
 ghost use Rattle.nodes.specs.internal.Lent.{table-of, table-in};
 use super::limits::MAX_LENGTH;
@@ -49,28 +49,40 @@ fn find_from(packed: &[u32], high: &[u32], used: u32, from: usize, v: u8, lo: u3
     Found::Nothing
 }
 
+// Where the chain of the node of level v with children lo and hi begins: the place of its head in `work`, and 0 where the
+// index has no head.
+fn head_of(work: &[u32], v: u8, lo: u32, hi: u32) -> usize
+    ensures { λ r. ⌜ Begins (now (work .entry)) v lo hi r ⌝ }
+{
+    let n = hashes(work);
+    if n == 0 {
+        return 0;
+    }
+    1 + covers(work) + hash(v as u32, lo, hi, n)
+}
+
 // The same among the entries that the index covers, by their chain.
 fn find_chained(
     packed: &[u32],
     high: &[u32],
     work: &[u32],
     used: u32,
+    head: usize,
     v: u8,
     lo: u32,
     hi: u32,
 ) -> Found
     requires { ⌜ WellFormed (table-of packed high used) ⌝ }
     requires { ⌜ Indexing (table-of packed high used) (now work) ⌝ }
+    requires { ⌜ Begins (now work) v lo hi head ⌝ }
     requires { ⌜ lo < maxLength ⌝ }
     ensures { λ r. ⌜ FindsBelow (coverage (headsIn (now (work .entry))) (linksIn (now (work .entry)))) (table-in packed high used) v lo hi r ⌝ }
 {
-    let n = hashes(work);
-    if n == 0 {
+    if head == 0 {
         return Found::Nothing;
     }
     let word = (v as u32) * MAX_LENGTH + lo;
-    let h = hash(v as u32, lo, hi, n);
-    let mut i = work[1 + covers(work) + h];
+    let mut i = work[head];
     while 2 <= i {
         let at = i as usize;
         if packed[at] == word {
@@ -84,26 +96,38 @@ fn find_chained(
 }
 
 // The same among all entries in use.
-fn find(packed: &[u32], high: &[u32], work: &[u32], used: u32, v: u8, lo: u32, hi: u32) -> Found
+fn find(
+    packed: &[u32],
+    high: &[u32],
+    work: &[u32],
+    used: u32,
+    head: usize,
+    v: u8,
+    lo: u32,
+    hi: u32,
+) -> Found
     requires { ⌜ WellFormed (table-of packed high used) ⌝ }
     requires { ⌜ Indexing (table-of packed high used) (now work) ⌝ }
+    requires { ⌜ Begins (now work) v lo hi head ⌝ }
     requires { ⌜ lo < maxLength ⌝ }
     ensures { λ r. ⌜ Finds (table-in packed high used) v lo hi r ⌝ }
 {
-    match find_chained(packed, high, work, used, v, lo, hi) {
+    match find_chained(packed, high, work, used, head, v, lo, hi) {
         Found::At(i) => Found::At(i),
         Found::Nothing => find_from(packed, high, used, covered(work), v, lo, hi),
     }
 }
 
-// Puts the new node `used` of level v with children lo and hi into the index, where that covers it.
-fn link(work: &mut [u32], used: u32, v: u8, lo: u32, hi: u32)
-    ensures { λ _. ⌜ Linking (now (work .entry)) used v lo hi (now (work .exit)) ⌝ }
+// Puts the new node `used` before the others of the chain that begins at `head`, where the index covers it.
+fn link(work: &mut [u32], used: u32, head: usize)
+    requires { ⌜ InIndex (now work) head ⌝ }
+    ensures { λ _. ⌜ LinkingAt (now (work .entry)) used head (now (work .exit)) ⌝ }
 {
+    if head == 0 {
+        return;
+    }
     let at = used as usize;
-    if at < covered(work) {
-        let h = hash(v as u32, lo, hi, hashes(work));
-        let head = 1 + covers(work) + h;
+    if at < covers(work) {
         work[1 + at] = work[head];
         work[head] = used;
     }
@@ -127,14 +151,15 @@ pub fn make(
     if lo == hi {
         return Made::At(lo, used);
     }
-    match find(packed, high, work, used, v, lo, hi) {
+    let head = head_of(work, v, lo, hi);
+    match find(packed, high, work, used, head, v, lo, hi) {
         Found::At(i) => Made::At(i, used),
         Found::Nothing => {
             let at = used as usize;
             if at < packed.len() {
                 packed[at] = (v as u32) * MAX_LENGTH + lo;
                 high[at] = hi;
-                link(work, used, v, lo, hi);
+                link(work, used, head);
                 Made::At(used, used + 1)
             } else {
                 Made::Full

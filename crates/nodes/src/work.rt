@@ -26,7 +26,7 @@ fn remainder(x: usize, n: usize) -> usize
     x % n
 }
 
-// A place below n for the node of level v with children lo and hi: that of the larger child, spread by the level and the smaller
+// A place below n for the node of level v with children lo and hi: by the larger child, spread by the level and the smaller
 // one, so that nodes made one after the other are found in few cache lines.
 pub(crate) fn hash(v: u32, lo: u32, hi: u32, n: usize) -> usize
     requires { ⌜ 0 < n ⌝ }
@@ -35,7 +35,7 @@ pub(crate) fn hash(v: u32, lo: u32, hi: u32, n: usize) -> usize
     let rises = lo < hi;
     let near = pick(rises, hi, lo) as usize;
     let far = pick(rises, lo, hi) as usize;
-    let x = 7 * (v as usize) + near + far % 1024;
+    let x = 7 * (v as usize) + 2 * near + far % 1024;
     if x < n {
         return x;
     }
@@ -73,7 +73,7 @@ pub(crate) fn covers(work: &[u32]) -> usize
 pub(crate) fn hashes(work: &[u32]) -> usize
     ensures { λ r. ⌜ r ≡ hashes (now (work .entry)) ⌝ }
 {
-    (parted(work) - covers(work)) / 3
+    (parted(work) - covers(work)) / 2
 }
 
 // Where the memory begins.

@@ -7,11 +7,11 @@ use Prim.Native.Nat.{ℕ, _+_, _*_, _%_, _≤_, _<_}
 use lib.Dec.{eqb, ltb}
 use lib.ListN.{length, getD, set}
 use Rattle.nodes.specs.Table.{Table, levelOf, lowOf, highOf}
-use Rattle.nodes.specs.internal.Parts.{linksIn, headsIn, memoIn}
+use Rattle.nodes.specs.internal.Parts.{hashes, headsAt, memoryAt, linksIn, headsIn, memoIn}
 
 -- a number below n, for n above 0, that depends on v, lo and hi
 unfoldable pub hashOf : ℕ → ℕ → ℕ → ℕ → ℕ
-hashOf v lo hi n = (7 * v + cond (ltb lo hi) hi lo + cond (ltb lo hi) lo hi % 1024) % n
+hashOf v lo hi n = (7 * v + 2 * cond (ltb lo hi) hi lo + cond (ltb lo hi) lo hi % 1024) % n
 
 -- how many entries the index covers
 abbrev pub coverage : List ℕ → List ℕ → ℕ
@@ -51,3 +51,18 @@ Indexing t work = Indexed t (headsIn work) (linksIn work)
 -- the memory of results is as it was
 abbrev pub Linking : List ℕ → ℕ → ℕ → ℕ → ℕ → List ℕ → Type 0
 Linking work used v lo hi work′ = Linked (headsIn work) (linksIn work) used v lo hi (headsIn work′) (linksIn work′) × (memoIn work′ ≡ memoIn work)
+
+-- a place of the work list is that of a head, or 0 and there is no head
+pub record InIndex (work : List ℕ) (head : ℕ) : Type 0 where
+  pub none : head ≡ 0 → hashes work ≡ 0
+  pub from : 0 < head → headsAt work ≤ head
+  pub to : 0 < head → head < memoryAt work
+
+-- the chain of the node of v, lo and hi begins there
+pub record Begins (work : List ℕ) (v lo hi head : ℕ) : Type 0 where
+  pub in-index : InIndex work head
+  pub place : 0 < head → head ≡ headsAt work + hashOf v lo hi (hashes work)
+
+-- node `used` has been put into the chain that begins there
+abbrev pub LinkingAt : List ℕ → ℕ → ℕ → List ℕ → Type 0
+LinkingAt work used head work′ = (v lo hi : ℕ) → Begins work v lo hi head → Linking work used v lo hi work′

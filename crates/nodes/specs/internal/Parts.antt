@@ -12,9 +12,9 @@ parted work = length work - 1
 unfoldable pub covers : List ℕ → ℕ
 covers work = min (getD work 0 0) (parted work / 2)
 
--- how many heads there are: a third of what the links leave
+-- how many heads there are: half of what the links leave
 unfoldable pub hashes : List ℕ → ℕ
-hashes work = (parted work - covers work) / 3
+hashes work = (parted work - covers work) / 2
 
 -- where the heads begin, and the memory
 abbrev pub headsAt : List ℕ → ℕ

@@ -16,6 +16,7 @@ use Rattle.nodes.proofs.apply.+operate.Lts-operate as lts
 use Rattle.nodes.proofs.apply.finish.Reads as finish-reads
 use Rattle.nodes.proofs.apply.pick.Reads as pick-reads
 use Rattle.nodes.proofs.computed.recall.Reads as recall-reads
+use Rattle.nodes.proofs.computed.slot_for.Reads as slot-for-reads
 use Rattle.nodes.proofs.apply.settle.Reads as settle-reads
 use Rattle.nodes.proofs.apply.split_at_top.Reads as split-at-top-reads
 use Rattle.nodes.proofs.apply.turns.Reads as turns-reads
@@ -41,6 +42,8 @@ claims t = (
   turns-reads.Learnt,
   pick-reads.Asked,
   pick-reads.Learnt,
+  slot-for-reads.Asked,
+  slot-for-reads.Learnt,
   recall-reads.Asked,
   recall-reads.Learnt,
   split-at-top-reads.Asked,
@@ -65,7 +68,7 @@ returns-2 : (t : ℕ) → lts.Need-returns-2 (claims t) (given-at t) operate.Pos
 returns-2 u c =
     let c6 = c .before in
     let c5 = c6 .before .before in
-    let c4 = c5 .before .before in
+    let c4 = c5 .before .before .before .before in
     let c3 = c4 .before in
     let c2 = c3 .before in
     let c0 = c2 .before .before .before .before .before .before .before .before .before in
@@ -78,7 +81,7 @@ returns-2 u c =
 
 split-at-top-requires : (t : ℕ) → lts.Need-split-at-top-requires (claims t) (given-at t) operate.Post
 split-at-top-requires u c κs =
-    let c3 = c .before .before .before .before .before .before .before .before .before in
+    let c3 = c .before .before .before .before .before .before .before .before .before .before .before in
     let c2 = c3 .before .before in
     let c0 = c2 .before .before .before .before .before .before in
     let a = c0 .args in
@@ -89,7 +92,7 @@ split-at-top-requires u c κs =
 operate-requires : (t : ℕ) → lts.Need-operate-requires (claims t) (given-at t) operate.Post
 operate-requires u c κs =
     let c4 = c .before .before .before in
-    let c3 = c4 .before .before .before .before .before .before .before .before .before .before in
+    let c3 = c4 .before .before .before .before .before .before .before .before .before .before .before .before in
     let c2 = c3 .before .before in
     let c0 = c2 .before .before .before .before .before .before in
     let a = c0 .args in
@@ -106,7 +109,7 @@ returns-3 : (t : ℕ) → lts.Need-returns-3 (claims t) (given-at t) operate.Pos
 returns-3 u c =
     let c5 = c .before .before .before .before .before .before .before .before in
     let c4 = c5 .before .before .before .before in
-    let c3 = c4 .before .before .before .before .before .before .before .before .before .before in
+    let c3 = c4 .before .before .before .before .before .before .before .before .before .before .before .before in
     let c2 = c3 .before .before in
     let c0 = c2 .before .before .before .before .before .before in
     let a = c0 .args in
@@ -122,7 +125,7 @@ operate-requires-2 u c κs =
     let c6 = c .before .before .before .before in
     let c5 = c6 .before .before .before .before .before .before .before .before in
     let c4 = c5 .before .before .before .before in
-    let c3 = c4 .before .before .before .before .before .before .before .before .before .before in
+    let c3 = c4 .before .before .before .before .before .before .before .before .before .before .before .before in
     let c2 = c3 .before .before in
     let c0 = c2 .before .before .before .before .before .before in
     let a = c0 .args in
@@ -142,7 +145,7 @@ returns-4 u c =
     let c6 = c7 .before .before .before .before .before in
     let c5 = c6 .before .before .before .before .before .before .before .before in
     let c4 = c5 .before .before .before .before in
-    let c3 = c4 .before .before .before .before .before .before .before .before .before .before in
+    let c3 = c4 .before .before .before .before .before .before .before .before .before .before .before .before in
     let c2 = c3 .before .before in
     let c0 = c2 .before .before .before .before .before .before in
     let a = c0 .args in
@@ -161,7 +164,7 @@ finish-requires u c κs =
     let c6 = c7 .before .before .before .before .before in
     let c5 = c6 .before .before .before .before .before .before .before .before in
     let c4 = c5 .before .before .before .before in
-    let c3 = c4 .before .before .before .before .before .before .before .before .before .before in
+    let c3 = c4 .before .before .before .before .before .before .before .before .before .before .before .before in
     let c2 = c3 .before .before in
     let c0 = c2 .before .before .before .before .before .before in
     let a = c0 .args in
@@ -182,7 +185,7 @@ returns-5 u c =
     let c9 = c10 .before .before .before .before .before in
     let c8 = c9 .before .before .before .before .before .before .before .before in
     let c7 = c8 .before .before .before .before in
-    let c6 = c7 .before .before .before .before .before .before .before in
+    let c6 = c7 .before .before .before .before .before .before .before .before .before in
     let c5 = c6 .before in
     let c4 = c5 .before in
     let c3 = c4 .before in
@@ -213,6 +216,7 @@ pub +operate-spec : {M : Type 1} → statement M
     (λ c. refl)
     (returns t)
     (λ c. search needs)
+    (λ c κs. search needs)
     (λ c κs. search needs)
     (λ c κs. search needs)
     (λ c κs. search needs)

@@ -1,6 +1,7 @@
 -- `nodes::finish` meets its contract, by those of `make` and `remember`. Assumes nothing.
 use borrow.Author.Needs.{needs}
 use mathlib.Core.Path.{subst}
+use native.Mathlib.Omega.{arith}
 use Rattle.nodes.specs.internal.Make.{Making}
 use Rattle.nodes.proofs.Holding.{finished}
 use Rattle.nodes.proofs.apply.finish.Statement.{statement}
@@ -14,7 +15,7 @@ returns c =
 remember-requires : tie.Need-remember-requires
 remember-requires c κs =
     let c0 = c .before .before .before .before .before .before .before .before .before .before .before .before .before .before .before .before .before in
-    c0 .pre .1 .1
+    omega (arith, c0 .pre .1 .1)
 
 returns-2 : tie.Need-returns-2
 returns-2 c =

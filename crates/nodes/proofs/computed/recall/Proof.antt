@@ -13,10 +13,10 @@ returns-2 c =
     let c5 = c6 .before .before in
     let c4 = c5 .before .before in
     let c3 = c4 .before in
-    let c2 = c3 .before .before in
+    let c2 = c3 .before in
     let c0 = c2 .before .before in
     let a = c0 .args in
-    work-holds (a .work .now) _ (c3 .memory-at .ensures) (a .op) (a .f) (a .g) _ (c4 .slot .result) (omega (arith, c4 .slot .ensures, c2 .slots .ensures)) (c5 .if2 .taken) (c6 .if3 .taken) (c7 .if4 .taken) refl
+    work-holds (a .work .now) _ (c4 .memory-at .ensures) (a .op) (a .f) (a .g) _ (a .s) (omega (arith, c3 .if1 .left, c2 .slots .ensures)) (c5 .if2 .taken) (c6 .if3 .taken) (c7 .if4 .taken) refl
 
 pub recall-spec : {M : Type 1} → statement M
 recall-spec =
@@ -24,7 +24,6 @@ recall-spec =
     (tie.spec
     (λ c κs. search needs)
     (λ c. search needs)
-    (λ c κs. search needs)
     (λ c κs. search needs)
     (λ c. search needs)
     (λ c. search needs)

@@ -24,6 +24,7 @@ use Rattle.nodes.proofs.apply.level_of.Reads as level-of-reads
 use Rattle.nodes.proofs.apply.low_cofactor.Reads as low-cofactor-reads
 use Rattle.nodes.proofs.quantify.recall_three.Reads as recall-three-reads
 use Rattle.nodes.proofs.quantify.settle_three.Reads as settle-three-reads
+use Rattle.nodes.proofs.computed.slot_for.Reads as slot-for-reads
 use Rattle.nodes.proofs.quantify.+quantify.{statement}
 use Rattle.nodes.proofs.quantify.+quantify.Tie.{close}
 
@@ -44,6 +45,8 @@ claims t = (
   level-of-reads.Learnt,
   settle-three-reads.Asked,
   settle-three-reads.Learnt,
+  slot-for-reads.Asked,
+  slot-for-reads.Learnt,
   recall-three-reads.Asked,
   recall-three-reads.Learnt,
   low-cofactor-reads.Asked,
@@ -81,7 +84,7 @@ returns u c =
 
 recall-three-requires : (t : ℕ) → lts.Need-recall-three-requires (claims t) (given-at t) quantify.Post
 recall-three-requires u c κs =
-    let c0 = c .before .before .before .before .before .before .before in
+    let c0 = c .before .before .before .before .before .before .before .before .before in
     let a = c0 .args in
     let pre = c0 .pre .1 in
     let t = packed-table (a .packed .now) (a .high .now) (a .used) in
@@ -91,7 +94,7 @@ returns-2 : (t : ℕ) → lts.Need-returns-2 (claims t) (given-at t) quantify.Po
 returns-2 u c =
     let c3 = c .before in
     let c2 = c3 .before .before in
-    let c0 = c2 .before .before .before .before .before .before .before .before in
+    let c0 = c2 .before .before .before .before .before .before .before .before .before .before in
     let a = c0 .args in
     let pre = c0 .pre .1 in
     let t = packed-table (a .packed .now) (a .high .now) (a .used) in
@@ -100,7 +103,7 @@ returns-2 u c =
 
 low-cofactor-requires : (t : ℕ) → lts.Need-low-cofactor-requires (claims t) (given-at t) quantify.Post
 low-cofactor-requires u c κs =
-    let c0 = c .before .before .before .before .before .before .before .before .before .before .before in
+    let c0 = c .before .before .before .before .before .before .before .before .before .before .before .before .before in
     let a = c0 .args in
     let pre = c0 .pre .1 in
     let t = packed-table (a .packed .now) (a .high .now) (a .used) in
@@ -108,7 +111,7 @@ low-cofactor-requires u c κs =
 
 high-cofactor-requires : (t : ℕ) → lts.Need-high-cofactor-requires (claims t) (given-at t) quantify.Post
 high-cofactor-requires u c κs =
-    let c0 = c .before .before .before .before .before .before .before .before .before .before .before .before .before .before in
+    let c0 = c .before .before .before .before .before .before .before .before .before .before .before .before .before .before .before .before in
     let a = c0 .args in
     let pre = c0 .pre .1 in
     let t = packed-table (a .packed .now) (a .high .now) (a .used) in
@@ -118,7 +121,7 @@ quantify-requires : (t : ℕ) → lts.Need-quantify-requires (claims t) (given-a
 quantify-requires u c κs =
     let c5 = c .before .before .before in
     let c4 = c5 .before .before .before in
-    let c3 = c4 .before .before .before .before .before .before in
+    let c3 = c4 .before .before .before .before .before .before .before .before in
     let c2 = c3 .before in
     let c0 = c2 .before .before .before .before .before in
     let a = c0 .args in
@@ -140,7 +143,7 @@ returns-3 u c =
     let c6 = c .before .before .before .before .before .before .before .before in
     let c5 = c6 .before .before .before .before in
     let c4 = c5 .before .before .before in
-    let c3 = c4 .before .before .before .before .before .before in
+    let c3 = c4 .before .before .before .before .before .before .before .before in
     let c2 = c3 .before in
     let c0 = c2 .before .before .before .before .before in
     let a = c0 .args in
@@ -163,7 +166,7 @@ quantify-requires-2 u c κs =
     let c6 = c7 .before .before .before .before .before .before .before .before in
     let c5 = c6 .before .before .before .before in
     let c4 = c5 .before .before .before in
-    let c3 = c4 .before .before .before .before .before .before in
+    let c3 = c4 .before .before .before .before .before .before .before .before in
     let c2 = c3 .before in
     let c0 = c2 .before .before .before .before .before in
     let a = c0 .args in
@@ -190,7 +193,7 @@ returns-4 u c =
     let c6 = c7 .before .before .before .before .before .before .before .before in
     let c5 = c6 .before .before .before .before in
     let c4 = c5 .before .before .before in
-    let c3 = c4 .before .before .before .before .before .before in
+    let c3 = c4 .before .before .before .before .before .before .before .before in
     let c2 = c3 .before in
     let c0 = c2 .before .before .before .before .before in
     let a = c0 .args in
@@ -218,7 +221,7 @@ finish-three-requires u c κs =
     let c6 = c7 .before .before .before .before .before .before .before .before in
     let c5 = c6 .before .before .before .before in
     let c4 = c5 .before .before .before in
-    let c3 = c4 .before .before .before .before .before .before in
+    let c3 = c4 .before .before .before .before .before .before .before .before in
     let c2 = c3 .before in
     let c0 = c2 .before .before .before .before .before in
     let a = c0 .args in
@@ -248,7 +251,7 @@ returns-5 u c =
     let c6 = c7 .before .before .before .before .before .before .before .before in
     let c5 = c6 .before .before .before .before in
     let c4 = c5 .before .before .before in
-    let c3 = c4 .before .before .before .before .before .before in
+    let c3 = c4 .before .before .before .before .before .before .before .before in
     let c2 = c3 .before in
     let c0 = c2 .before .before .before .before .before in
     let a = c0 .args in
@@ -282,6 +285,7 @@ pub +quantify-spec : {M : Type 1} → statement M
     (λ c. let c1 = c .before .before .before .before .before .before in c1 .settle-three .kept .1 .0)
     (λ c. let c1 = c .before .before .before .before .before .before in c1 .settle-three .kept .1 .1 .0)
     (returns t)
+    (λ c κs. search needs)
     (recall-three-requires t)
     (λ c. search needs)
     (λ c. refl)

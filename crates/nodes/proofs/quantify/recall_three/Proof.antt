@@ -14,10 +14,10 @@ returns-2 c =
     let c5 = c6 .before in
     let c4 = c5 .before .before in
     let c3 = c4 .before in
-    let c2 = c3 .before .before in
+    let c2 = c3 .before in
     let c0 = c2 .before .before in
     let a = c0 .args in
-    work-holds (a .work .now) _ (c3 .memory-at .ensures) (quantifying (a .v) (a .f)) _ _ _ (c4 .slot .result) (omega (arith, c4 .slot .ensures, c2 .slots .ensures)) (c6 .if2 .taken ∙ ap (λ (n : ℕ). n + 1) (c5 .number-of .ensures .0)) refl refl refl
+    work-holds (a .work .now) _ (c4 .memory-at .ensures) (quantifying (a .v) (a .f)) _ _ _ (a .s) (omega (arith, c3 .if1 .left, c2 .slots .ensures)) (c6 .if2 .taken ∙ ap (λ (n : ℕ). n + 1) (c5 .number-of .ensures .0)) refl refl refl
 
 pub recall-three-spec : {M : Type 1} → statement M
 recall-three-spec =
@@ -25,7 +25,6 @@ recall-three-spec =
     (tie.spec
     (λ c κs. search needs)
     (λ c. search needs)
-    (λ c κs. search needs)
     (λ c κs. search needs)
     (λ c. search needs)
     (λ c. search needs)

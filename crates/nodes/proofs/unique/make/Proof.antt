@@ -20,23 +20,24 @@ returns c =
 
 find-requires : tie.Need-find-requires
 find-requires c κs =
-    let c0 = c .before .before .before .before .before .before .before in
+    let c2 = c .before .before .before in
+    let c0 = c2 .before .before .before .before .before .before in
     let a = c0 .args in
     let pre = c0 .pre in
-    (pre .0 .formed, (pre .1, child-small (a .packed .now) (a .high .now) (a .used) (a .v) (a .lo) (a .hi) (pre .0)))
+    (pre .0 .formed, (pre .1, (c2 .head-of .ensures, child-small (a .packed .now) (a .high .now) (a .used) (a .v) (a .lo) (a .hi) (pre .0))))
 
 mul-packed : tie.Need-mul-packed
 mul-packed c = omega arith
 
 add-packed : tie.Need-add-packed
 add-packed c =
-    let c0 = c .before .before .before .before .before .before .before .before .before .before .before in
+    let c0 = c .before .before .before .before .before .before .before .before .before .before .before .before .before in
     let a = c0 .args in
     omega (arith, child-small (a .packed .now) (a .high .now) (a .used) (a .v) (a .lo) (a .hi) (c0 .pre .0))
 
 slice-write-high : tie.Need-slice-write-high
 slice-write-high c =
-    let c0 = c .before .before .before .before .before .before .before .before .before .before .before in
+    let c0 = c .before .before .before .before .before .before .before .before .before .before .before .before .before in
     let a = c0 .args in
     let wf = c0 .pre .0 .formed in
     omega (arith, wf .high-length, levels-length (a .packed .now), c .if2 .taken)
@@ -45,7 +46,7 @@ returns-2 : tie.Need-returns-2
 returns-2 c =
     let c3 = c .before in
     let c2 = c3 .before .before in
-    let c0 = c2 .before .before .before .before .before .before .before .before in
+    let c0 = c2 .before .before .before .before .before .before .before .before .before .before in
     let a = c0 .args in
     let pre = c0 .pre in
     let t = packed-table (a .packed .now) (a .high .now) (a .used) in
@@ -57,19 +58,19 @@ returns-3 c =
     let c5 = c6 .before .before in
     let c4 = c5 .before in
     let c3 = c4 .before .before in
-    let c2 = c3 .before .before .before .before in
+    let c2 = c3 .before .before .before .before .before .before in
     let c0 = c2 .before .before .before .before in
     let a = c0 .args in
     let pre = c0 .pre in
     let t = packed-table (a .packed .now) (a .high .now) (a .used) in
     packed-new (a .packed .now) (a .high .now) (a .used) (a .v) (a .lo) (a .hi) (pre .0) (c2 .if1 .left) (subst (Finds t (a .v) (a .lo) (a .hi)) (c4 .enum-told .given .1) (c3 .find .ensures))
-    (a .work .now) _ (c5 .if2 .taken) (pre .1) (c6 .link .ensures)
+    (a .work .now) _ (c5 .if2 .taken) (pre .1) (c6 .link .ensures _ _ _ (c3 .before .before .before .before .head-of .ensures))
 
 returns-4 : tie.Need-returns-4
 returns-4 c =
     let c4 = c .before in
     let c3 = c4 .before .before in
-    let c2 = c3 .before .before .before .before in
+    let c2 = c3 .before .before .before .before .before .before in
     let c0 = c2 .before .before .before .before in
     let a = c0 .args in
     let pre = c0 .pre in
@@ -81,6 +82,7 @@ make-spec =
     tie.close
     (tie.spec
     returns
+    (λ c κs. search needs)
     find-requires
     (λ c. search needs)
     (λ c. search needs)

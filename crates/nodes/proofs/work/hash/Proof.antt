@@ -13,7 +13,7 @@ returns c =
     let c2 = c .before in
     let c1 = c2 .before in
     let a = c1 .before .args in
-    (sym (mod-eq-of-lt (c .if1 .taken)) ∙ ap₂ (λ (x y : ℕ). (7 * a .v + x + y % 1024) % a .n) (c1 .pick .ensures) (c2 .pick2 .ensures), c .if1 .taken)
+    (sym (mod-eq-of-lt (c .if1 .taken)) ∙ ap₂ (λ (x y : ℕ). (7 * a .v + 2 * x + y % 1024) % a .n) (c1 .pick .ensures) (c2 .pick2 .ensures), c .if1 .taken)
 
 returns-2 : tie.Need-returns-2
 unfolding hashOf
@@ -22,7 +22,7 @@ returns-2 c =
     let c1 = c2 .before in
     let c0 = c1 .before in
     let a = c0 .args in
-    (c .remainder .ensures ∙ ap₂ (λ (x y : ℕ). (7 * a .v + x + y % 1024) % a .n) (c1 .pick .ensures) (c2 .pick2 .ensures), subst (λ (r : ℕ). r < a .n) (sym (c .remainder .ensures)) (mod-lt _ (c0 .pre)))
+    (c .remainder .ensures ∙ ap₂ (λ (x y : ℕ). (7 * a .v + 2 * x + y % 1024) % a .n) (c1 .pick .ensures) (c2 .pick2 .ensures), subst (λ (r : ℕ). r < a .n) (sym (c .remainder .ensures)) (mod-lt _ (c0 .pre)))
 
 pub hash-spec : {M : Type 1} → statement M
 hash-spec =
@@ -31,6 +31,7 @@ hash-spec =
     (λ c κs. search needs)
     (λ c. search needs)
     (λ c κs. search needs)
+    (λ c. search needs)
     (λ c. search needs)
     (λ c. search needs)
     (λ c. search needs)

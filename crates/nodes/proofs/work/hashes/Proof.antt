@@ -18,7 +18,7 @@ returns : tie.Need-returns
 unfolding hashes
 returns c =
     let c1 = c .before in
-    ap₂ (λ (n k : ℕ). (n - k) / 3) (c1 .parted .ensures) (c .covers .ensures)
+    ap₂ (λ (n k : ℕ). (n - k) / 2) (c1 .parted .ensures) (c .covers .ensures)
 
 pub hashes-spec : {M : Type 1} → statement M
 hashes-spec =
