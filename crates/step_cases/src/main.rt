@@ -114,13 +114,16 @@ fn show(name: &[u8], text: &[u8], n: u64) {
     }
 }
 
-fn first() {
+fn leaves() {
     show(
         b"leaf of three states",
         b"000103000201010002020300000201000000\n",
         4,
     );
     show(b"leaf of one state", b"000101000000000400\n", 1);
+}
+
+fn composed() {
     show(
         b"compose, one line twice",
         b"000102000201010300000001\n01020000\n",
@@ -131,31 +134,37 @@ fn first() {
         b"000103000201010002\n010102000301010000\n02020001\n",
         8,
     );
+}
+
+fn restricted() {
     show(
         b"restrict",
         b"000102000201010300000400010001\n01030001\n",
         2,
     );
+    show(b"restrict nothing", b"000102000201\n010300\n", 2);
 }
 
-fn second() {
-    show(b"restrict nothing", b"000102000201\n010300\n", 2);
+fn relabelled() {
     show(
         b"relabel",
         b"000102000201010300000400010001\n0104000102\n",
         2,
     );
     show(b"relabel to itself", b"000102000201010500\n0104000101\n", 2);
+}
+
+fn hidden_and_joint() {
     show(b"hide", b"000102000201010300000400010001\n010500011F\n", 2);
     show(
         b"joint",
         b"000102000201010400000300\n010103000201010202000500020000\n0206000101\n",
         8,
     );
+    show(b"joint on nothing", b"000102000201\n01060000\n", 4);
 }
 
-fn third() {
-    show(b"joint on nothing", b"000102000201\n01060000\n", 4);
+fn nested() {
     show(
         b"all operators nested",
         b"000102000201010300010001\n010103000301010402020200\n02020001\n0304020203\n0406030003\n05050401\n06030502\n",
@@ -174,7 +183,10 @@ fn third() {
 }
 
 fn main() {
-    first();
-    second();
-    third();
+    leaves();
+    composed();
+    restricted();
+    relabelled();
+    hidden_and_joint();
+    nested();
 }
