@@ -79,7 +79,7 @@ fn remember_three(work: &mut [u32], s: usize, v: u8, f: u32, r: Trio)
     remember(work, s, number, r.zero, r.one, r.any);
 }
 
-// Makes the three nodes of level l whose children are the entries of a and of b.
+// Makes the three nodes of level l whose children are the entries of a and of b. The ∨ is often the first of them.
 fn make_three(
     packed: &mut [u32],
     high: &mut [u32],
@@ -99,6 +99,10 @@ fn make_three(
     let Made::At(one, m) = make(packed, high, work, n, l, a.one, b.one) else {
         return Three::Full;
     };
+    if a.any == a.zero && b.any == b.zero {
+        let any = zero;
+        return Three::At(Trio { zero, one, any }, m);
+    }
     let Made::At(any, k) = make(packed, high, work, m, l, a.any, b.any) else {
         return Three::Full;
     };

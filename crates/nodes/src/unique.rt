@@ -23,6 +23,18 @@ pub enum Found {
     Nothing,
 }
 
+// Where the chain of the node of level v with children lo and hi begins: the place of its head in `work`, and 0 where the
+// index has no head.
+fn head_of(work: &[u32], v: u8, lo: u32, hi: u32) -> usize
+    ensures { λ r. ⌜ Begins (now (work .entry)) v lo hi r ⌝ }
+{
+    let n = hashes(work);
+    if n == 0 {
+        return 0;
+    }
+    1 + covers(work) + hash(v as u32, lo, hi, n)
+}
+
 // The node of level v with children lo and hi, if it is one of the entries from `from` on.
 fn find_from(packed: &[u32], high: &[u32], used: u32, from: usize, v: u8, lo: u32, hi: u32) -> Found
     requires { ⌜ WellFormed (table-of packed high used) ⌝ }
@@ -47,18 +59,6 @@ fn find_from(packed: &[u32], high: &[u32], used: u32, from: usize, v: u8, lo: u3
         i += 1;
     }
     Found::Nothing
-}
-
-// Where the chain of the node of level v with children lo and hi begins: the place of its head in `work`, and 0 where the
-// index has no head.
-fn head_of(work: &[u32], v: u8, lo: u32, hi: u32) -> usize
-    ensures { λ r. ⌜ Begins (now (work .entry)) v lo hi r ⌝ }
-{
-    let n = hashes(work);
-    if n == 0 {
-        return 0;
-    }
-    1 + covers(work) + hash(v as u32, lo, hi, n)
 }
 
 // The same among the entries that the index covers, by their chain.
