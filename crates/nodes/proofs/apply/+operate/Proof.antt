@@ -5,6 +5,7 @@ use Prim.Native.Nat.{ℕ, _+_, _<_}
 use borrow.Author.Needs.{needs}
 use borrow.Fn.Kinds.{In}
 use borrow.Fn.PlainCycle.{Measures, is, falls, and}
+use lib.ListN.{length}
 use Rattle.nodes.specs.internal.Packed.{levels, lows, packed-table}
 use Rattle.nodes.specs.internal.Parts.{linksIn, headsIn, memoIn}
 use Rattle.nodes.specs.Table.{den}
@@ -255,7 +256,7 @@ pub +operate-spec : {M : Type 1} → statement M
     (λ c. let c2 = c .before .before .before .before .before .before .before .before in let c1 = c2 .before .before .before .before .before .before .before .before .before .before .before .before .before in c2 .operate2 .kept .1 .1 .0 ∙ c1 .operate .kept .1 .1 .0)
     (returns-4 t)
     (finish-requires t)
-    (λ c. let c3 = c .before .before .before .before .before .before in let c2 = c3 .before .before .before .before .before .before .before .before .before .before .before .before .before in let c1 = c2 .before .before .before .before .before .before .before .before .before .before .before .before .before in c3 .finish .kept .0 ∙ c2 .operate2 .kept .0 ∙ c1 .operate .kept .0)
+    (λ c. let c3 = c .before .before .before .before .before .before in let c2 = c3 .before .before .before .before .before .before .before .before .before .before .before .before .before in let c1 = c2 .before .before .before .before .before .before .before .before .before .before .before .before .before in _∙_ {b = length (c2 .operate2 .last .0)} (c3 .finish .kept .0) (c2 .operate2 .kept .0 ∙ c1 .operate .kept .0))
     (λ c. let c3 = c .before .before .before .before .before .before in let c2 = c3 .before .before .before .before .before .before .before .before .before .before .before .before .before in let c1 = c2 .before .before .before .before .before .before .before .before .before .before .before .before .before in c3 .finish .kept .1 .0 ∙ c2 .operate2 .kept .1 .0 ∙ c1 .operate .kept .1 .0)
     (λ c. let c3 = c .before .before .before .before .before .before in let c2 = c3 .before .before .before .before .before .before .before .before .before .before .before .before .before in let c1 = c2 .before .before .before .before .before .before .before .before .before .before .before .before .before in c3 .finish .kept .1 .1 .0 ∙ c2 .operate2 .kept .1 .1 .0 ∙ c1 .operate .kept .1 .1 .0)
     (returns-5 t)
