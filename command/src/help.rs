@@ -12,6 +12,7 @@ All answers about models come from a library whose code is proved.
   seipolku from-aut FILE..       Aldebaran files (.aut) to model texts
   seipolku to-aut MODEL          the reachable part of a model as an .aut file
   seipolku build FILE..          the readable form to model texts, and back
+  ./seipolku install [PREFIX]    in the repository: copies command, library, header and pages
 
 'seipolku COMMAND --help' says more and gives examples. MODEL, LEFT and RIGHT are model texts (.hex); names of channels, processes and
 states are read from the file of the same name with the ending .names, if there is one. docs/TUTORIAL.md is a first walk.
