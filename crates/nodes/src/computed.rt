@@ -1,14 +1,16 @@
 // The computed table: results of operations, in slots of four words, each written over by the next one of its place.
-ghost use Prim.Native.Nat.{_≤_};
+ghost use Prim.Native.Nat.{_≤_, _<_};
 ghost use Rattle.nodes.specs.internal.Parts.{memoIn};
-ghost use Rattle.nodes.specs.internal.Operate.{lastOperation, lastNumber, Recalled, Keeping};
+ghost use Rattle.nodes.specs.internal.Operate.{lastOperation, lastNumber, slotsIn, Recalled, Keeping};
 use super::unique::Found;
 use super::work::memory_at;
 use super::work::slot;
 use super::work::slots;
 
-// The slot for the result of an operation with three numbers. Where the memory has no slot, it is none.
-pub(crate) fn slot_for(work: &[u32], a: u32, b: u32, c: u32) -> usize {
+// The slot for the result of an operation with three numbers, whichever it is. Where the memory has no slot, it is none.
+pub(crate) fn slot_for(work: &[u32], a: u32, b: u32, c: u32) -> usize
+    ensures { λ r. ⌜ (0 < slotsIn (now (work .entry)) → r < slotsIn (now (work .entry))) ⌝ }
+{
     let n = slots(work);
     if n == 0 {
         return 0;
