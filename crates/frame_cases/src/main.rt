@@ -194,14 +194,28 @@ fn ninth() {
     case(b"operand later\n000102000201\n010300\n02050301\n");
     case(b"operand FF\n000102000201\n0102FF00\n");
     case(b"both operands the same\n000102000201\n01020000\n");
+}
+
+fn bits() {
     case(b"18 bits\n000140\n01020000\n02020100\n");
-    case(b"24 bits\n000140\n01020000\n02020101\n");
     case(b"20 bits\n000140\n01020000\n02020100\n030104\n04020203\n");
+    case(b"20 bits, fewer states\n000121\n01020000\n02020100\n030103\n04020203\n");
     case(b"21 bits\n000140\n01020000\n02020100\n030108\n04020203\n");
+    case(b"24 bits\n000140\n01020000\n02020101\n");
+    case(b"24 bits, fewer states\n000121\n01020000\n02020101\n");
+    case(b"25 bits\n000140\n01020000\n02020101\n030102\n04020203\n");
+    case(b"25 bits, fewer states\n000121\n01020000\n02020101\n030102\n04020203\n");
+    case(b"48 bits\n000140\n01020000\n02020101\n03020202\n");
+}
+
+fn unused_bits() {
+    case(b"unused line of 20 bits\n000140\n01020000\n02020100\n030104\n04020203\n050101\n");
+    case(b"unused line of 21 bits\n000140\n01020000\n02020100\n030108\n04020203\n050101\n");
+    case(b"unused line of 24 bits\n000140\n01020000\n02020101\n030101\n");
+    case(b"bad unused line: 25 bits\n000140\n01020000\n02020101\n030102\n04020203\n050101\n");
 }
 
 fn tenth() {
-    case(b"20 bits, fewer states\n000121\n01020000\n02020100\n030103\n04020203\n");
     case(b"64 leaf uses\n000101\n01020000\n02020101\n03020202\n04020303\n05020404\n06020505\n");
     case(
         b"65 leaf uses\n000101\n01020000\n02020101\n03020202\n04020303\n05020404\n06020505\n07020600\n",
@@ -212,7 +226,7 @@ fn tenth() {
     case(b"bad unused line: stray\n000102000201\n0101x1\n020101\n");
     case(b"bad unused line: kind\n000102000201\n010001\n020101\n");
     case(b"bad unused line: state\n000102000201\n010102050201\n020101\n");
-    case(b"bad unused line: limits\n000140\n01020000\n02020101\n030101\n");
+    case(b"bad unused line: limits\n000140\n01020000\n02020101\n03020202\n040101\n");
     case(b"good unused line\n000140\n010102000201\n");
 }
 
@@ -237,6 +251,8 @@ fn main() {
     seventh();
     eighth();
     ninth();
+    bits();
+    unused_bits();
     tenth();
     eleventh();
     lines::all();

@@ -71,11 +71,36 @@ fn numbers() {
     good(b"action 64", 1, 64, 0, 0, 0, 0);
     good(b"action 2^64 - 1", 1, 18446744073709551615, 0, 0, 0, 0);
     good(b"codes 2^20 - 1", 3, 63, 1048575, 1048575, 1048575, 1048575);
-    good(b"left now 2^20", 1, 0, 1048576, 0, 0, 0);
-    good(b"left next 2^20", 1, 0, 0, 1048576, 0, 0);
-    good(b"right now 2^20", 1, 0, 0, 0, 1048576, 0);
-    good(b"right next 2^20", 1, 0, 0, 0, 0, 1048576);
+    good(
+        b"codes 2^24 - 1",
+        3,
+        63,
+        16777215,
+        16777215,
+        16777215,
+        16777215,
+    );
     good(b"right next 2^64 - 1", 1, 0, 0, 0, 0, 18446744073709551615);
+}
+
+// A code in each of the four places, from a root.
+fn each_place(name: &[u8], root: u64, code: u64) {
+    good(name, root, 0, code, 0, 0, 0);
+    good(name, root, 0, 0, code, 0, 0);
+    good(name, root, 0, 0, 0, code, 0);
+    good(name, root, 0, 0, 0, 0, code);
+}
+
+fn codes() {
+    each_place(b"code 2^20, entry 0", 0, 1048576);
+    each_place(b"code 2^20, entry 1", 1, 1048576);
+    each_place(b"code 2^20, entry 2", 2, 1048576);
+    each_place(b"code 2^24 - 1, entry 0", 0, 16777215);
+    each_place(b"code 2^24 - 1, entry 1", 1, 16777215);
+    each_place(b"code 2^24 - 1, entry 2", 2, 16777215);
+    each_place(b"code 2^24, entry 0", 0, 16777216);
+    each_place(b"code 2^24, entry 1", 1, 16777216);
+    each_place(b"code 2^24, entry 2", 2, 16777216);
 }
 
 fn levels() {
@@ -86,10 +111,10 @@ fn levels() {
         b"level 8, a middle bit",
         8,
         63,
-        1048575,
-        1048575,
-        1048575,
-        1048575,
+        16777215,
+        16777215,
+        16777215,
+        16777215,
     );
     at_level(b"level 9, right now 1", 9, 0, 0, 0, 1, 0);
     at_level(b"level 10, right next 1", 10, 0, 0, 0, 0, 1);
@@ -98,26 +123,32 @@ fn levels() {
         b"level 11, a middle bit",
         11,
         63,
-        1048575,
-        1048575,
-        1048575,
-        1048575,
+        16777215,
+        16777215,
+        16777215,
+        16777215,
     );
 }
 
 fn last_levels() {
     at_level(b"level 120, left now 2^19", 120, 0, 524288, 0, 0, 0);
     at_level(b"level 124, right next 2^19", 124, 0, 0, 0, 0, 524288);
+    at_level(b"level 126, left now 2^20", 126, 0, 1048576, 0, 0, 0);
+    at_level(b"level 126, left now 2^20 - 1", 126, 0, 1048575, 0, 0, 0);
+    at_level(b"level 144, left now 2^23", 144, 0, 8388608, 0, 0, 0);
+    at_level(b"level 145, left next 2^23", 145, 0, 0, 8388608, 0, 0);
+    at_level(b"level 147, right now 2^23", 147, 0, 0, 0, 8388608, 0);
+    at_level(b"level 148, right next 2^23", 148, 0, 0, 0, 0, 8388608);
     at_level(
-        b"level 125, a middle bit",
-        125,
+        b"level 149, a middle bit",
+        149,
         63,
-        1048575,
-        1048575,
-        1048575,
-        1048575,
+        16777215,
+        16777215,
+        16777215,
+        16777215,
     );
-    at_level(b"level 126", 126, 0, 0, 0, 0, 0);
+    at_level(b"level 150", 150, 0, 0, 0, 0, 0);
     at_level(b"level 254", 254, 0, 0, 0, 0, 0);
     at_level(b"level 255", 255, 0, 0, 0, 0, 0);
 }
@@ -163,6 +194,7 @@ fn unequal_sizes() {
 fn main() {
     roots();
     numbers();
+    codes();
     levels();
     last_levels();
     disorder();

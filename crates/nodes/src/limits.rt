@@ -1,7 +1,7 @@
 // The limits of tables and look-ups.
 
 // The most bits of a state code.
-pub const MAX_BITS: u8 = 20;
+pub const MAX_BITS: u8 = 24;
 
 // How many codes there are of as many bits.
 pub const CODES: u64 = 1 << MAX_BITS;

@@ -13,6 +13,7 @@ use super::apply::low_cofactor;
 use super::apply::operate;
 use super::computed::remember;
 use super::computed::slot_for;
+use super::limits::CONSTANT_LEVEL;
 use super::limits::LAST_LEVEL;
 use super::unique::Made;
 use super::unique::make;
@@ -40,8 +41,8 @@ pub enum Held {
 // The first number of ∃, behind those of the operations.
 const FIRST_NUMBER: u32 = 5 + 2 * (LAST_LEVEL as u32);
 
-// How many numbers of ∃ an entry has: more than there are levels.
-const LEVELS_EACH: u32 = 128;
+// How many numbers of ∃ an entry has: one for every level that an entry may have.
+const LEVELS_EACH: u32 = (CONSTANT_LEVEL as u32) + 1;
 
 // The number under which the memory has the results of ∃v f: no operation's.
 fn number_of(v: u8, f: u32) -> u32

@@ -14,7 +14,7 @@ use Rattle.nodes.specs.declared.apply.Settled.{Settled}
 use Rattle.nodes.specs.declared.apply.Settled.the-variants as settled
 use Rattle.nodes.specs.declared.apply.Split.{Split}
 use Rattle.nodes.specs.Fun.{Fun, both, either, negated, fixed, exists}
-use Rattle.nodes.specs.Table.{Table, table, lastLevel, maxLength, levelOf, den, WellFormed}
+use Rattle.nodes.specs.Table.{Table, table, lastLevel, constantLevel, maxLength, levelOf, den, WellFormed}
 use Rattle.nodes.specs.internal.Growth.{Built, Short}
 use Rattle.nodes.specs.internal.Packed.{levels, lows}
 use Rattle.nodes.specs.internal.Parts.{memoryAt, linksIn, headsIn, memoIn}
@@ -75,9 +75,9 @@ pub record Splits (t : Table) (f g : ℕ) (s : Split) : Type 0 where
 -- A memory of results: a list of any length, in slots of four numbers, the first of which is 0 in an empty slot. A slot of an operation has its
 -- number plus 1, the operands and the result. A slot of ∃v f has `quantifying v f` plus 1, and the three results.
 
--- the numbers of ∃ come behind those of the operations, so many for each entry: more than there are levels
+-- the numbers of ∃ come behind those of the operations, so many for each entry: one for every level that an entry may have
 abbrev pub levelsEach : ℕ
-levelsEach = 128
+levelsEach = constantLevel + 1
 
 -- the number of ∃v f, and the level and the entry of a number
 abbrev pub quantifying : ℕ → ℕ → ℕ
