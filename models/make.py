@@ -1,7 +1,7 @@
 #!/usr/bin/env python3
 """Writes the model texts (*.hex), NAMES.md, EXPECTED.tsv and vectors.tsv from readable definitions.
 
-Run `python3 make.py` after building the oracle; it takes about ten seconds. The verdicts below were settled
+Run `python3 make.py` after building the oracle; it takes about 20 seconds. The verdicts below were settled
 by argument (README.md); the script stops if the oracle gives another one.
 """
 
@@ -18,7 +18,7 @@ LARGEST_TABLE = 1 << 20
 MAX_BITS = 24
 
 names = []       # lines of NAMES.md
-pairs = []       # (left, right, mode, verdict, whether its pairs of states are few enough to enumerate)
+pairs = []       # (left, right, mode, verdict, whether the oracle can enumerate the pairs of states)
 refusals = []    # (name, text, right, line): in this line the text gets more than MAX_BITS bits
 
 
@@ -136,9 +136,9 @@ def spelled(name):
     return name if all(c.isalnum() or c in "_.'" for c in name) else f'"{name}"'
 
 
-def pair(left, right, strong, weak=None, explicit=True):
-    """Stores the verdicts of both modes, or of the strong one alone; explicit if the oracle can enumerate the pairs of states."""
-    pairs.extend((left, right, mode, verdict, explicit) for mode, verdict in ((0, strong), (1, weak)) if verdict)
+def pair(left, right, strong, weak, explicit=True):
+    """Explicit if the pairs of states are few enough for the oracle to enumerate them."""
+    pairs.extend((left, right, mode, verdict, explicit) for mode, verdict in ((0, strong), (1, weak)))
 
 
 def refused(name, model, right, line):
@@ -589,26 +589,22 @@ def station_of_cells(family, k, drop):
 
 def shuttle_of_cells(family):
     def both(k):
+        """The names of the right station and of the faulty one."""
         return [station_of_cells(family, k, drop).save(f"shuttle{k}_cells{ending}")
                 for drop, ending in (("survives", ""), ("loses", "_faulty"))]
 
-    def compare_with_service(k, explicit, strong_only=False):
-        right, faulty = both(k)
-        service = f"shuttle{k}_service"
-        pair(right, service, "different", None if strong_only else "equal", explicit)
-        pair(faulty, service, "different", None if strong_only else "different", explicit)
-
-    largest = MAX_BITS - 6    # the other leaves have 1 + 2 + 2 + 2 bits, and the write cell is one of the k
+    largest = MAX_BITS - 6    # k cells with link, drive and supply have k + 6 bits
+    stations = {k: both(k) for k in (1, 2, 3, 4, 5, 6, 8, 9, 16, largest)}
     for k in (8, 9, 16, largest):
         shuttle_service(family, k)
-    for k in (1, 2, 3, 8, 9):
-        compare_with_service(k, explicit=True)
-    compare_with_service(16, explicit=False)
-    compare_with_service(largest, explicit=False, strong_only=True)
-    for k in (5, 6):
-        pair(*both(k), "different")
-    too_large = station_of_cells(family, largest + 1, "survives")
-    refused(f"shuttle{largest + 1}_cells", too_large, f"shuttle{largest}_service", 37)
+    for k in (1, 2, 3, 8, 9, 16, largest):
+        right, faulty = stations[k]
+        pair(right, f"shuttle{k}_service", "different", "equal", explicit=k <= 9)
+        pair(faulty, f"shuttle{k}_service", "different", "different", explicit=k <= 9)
+    for k in (3, 4, 5, 6):
+        pair(*stations[k], "different", "different")
+    above = station_of_cells(family, largest + 1, "survives")
+    refused(f"shuttle{largest + 1}_cells", above, f"shuttle{largest}_service", 37)
 
 
 def oracle(*words, text=""):
