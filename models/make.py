@@ -142,7 +142,7 @@ def pair(left, right, strong, weak, explicit=True):
 
 
 def refused(name, model, right, line):
-    """A text with more than MAX_BITS bits in this line: it stands in vectors.tsv only, since every file is accepted."""
+    """A text that gets too many bits in this line: a vectors line, but no file, since all files are accepted."""
     refusals.append((name, model.text(), right, line))
 
 
@@ -454,25 +454,6 @@ def transport_handler():
     family.finish()
 
 
-# Copies of one leaf that step together: one bit each.
-
-def joined_leaves():
-    family = Family("Joined leaves")
-
-    def joined(count):
-        model = Model(family)
-        leaf = model.leaf("two-state leaf", [("down", "turn!", "up"), ("up", "turn?", "down")])
-        total = leaf
-        for _ in range(count - 1):
-            total = model.joint(total, leaf, ["turn"])
-        return model
-
-    one = joined(1).save("joined1")
-    pair(joined(MAX_BITS).save(f"joined{MAX_BITS}"), one, "equal", "equal", explicit=False)
-    refused(f"joined{MAX_BITS + 1}", joined(MAX_BITS + 1), one, MAX_BITS)
-    family.finish()
-
-
 # Shuttle: host link, journal, drive and a supply that may drop.
 
 def shuttle():
@@ -553,7 +534,7 @@ def write_cell(drop, hand):
 
 
 def chain(model, lines, count):
-    """So many cells in a row, made of two shorter rows; `lines` has the line of each row that is there."""
+    """The line of `count` cells in a row, made of two shorter rows; `lines` keeps the line of each length."""
     if count not in lines:
         front, back = chain(model, lines, count // 2), chain(model, lines, count - count // 2)
         both = model.compose(model.relabel(front, out="hand"), model.relabel(back, **{"in": "hand"}))
@@ -562,6 +543,7 @@ def chain(model, lines, count):
 
 
 def journal_of_cells(model, cell, k, drop):
+    """The write cell and k - 1 further cells, the last of which hands over to the drive."""
     if k == 1:
         return model.leaf("write cell", write_cell(drop, "go!"))
     write = model.leaf("write cell", write_cell(drop, "hand!"))
@@ -607,21 +589,40 @@ def shuttle_of_cells(family):
     refused(f"shuttle{largest + 1}_cells", above, f"shuttle{largest}_service", 37)
 
 
+# Copies of one leaf that step together: one bit each.
+
+def joined_leaves():
+    family = Family("Joined leaves")
+
+    def joined(count):
+        model = Model(family)
+        leaf = model.leaf("two-state leaf", [("down", "turn!", "up"), ("up", "turn?", "down")])
+        total = leaf
+        for _ in range(count - 1):
+            total = model.joint(total, leaf, ["turn"])
+        return model
+
+    one = joined(1).save("joined1")
+    pair(joined(MAX_BITS).save(f"joined{MAX_BITS}"), one, "equal", "equal", explicit=False)
+    refused(f"joined{MAX_BITS + 1}", joined(MAX_BITS + 1), one, MAX_BITS)
+    family.finish()
+
+
 def oracle(*words, text=""):
     done = subprocess.run(["nice", ORACLE, *map(str, words)], capture_output=True, text=True, input=text)
     return done.stdout.strip() or done.stderr.strip()
 
 
 def answer(left, right, mode, verdict, explicit):
-    """Verdict, rounds and nodes. `-` stands for the nodes where the list fits no table; without explicit pairs
-    the rounds are not known then either."""
-    found = [verdict, "-"]
-    if explicit:
-        found = oracle("verdict", path(left), path(right), mode, LIMIT).split()
-    counted = oracle("compare", path(left), path(right), mode, LIMIT, LARGEST_TABLE).split()
+    """Verdict and rounds by explicit pairs, and nodes; `-` where the list fits no table. Without explicit pairs
+    the list gives the verdict and the rounds too; if it fits no table, the argued verdict stands with `-` for both."""
+    files = path(left), path(right)
+    found = oracle("verdict", *files, mode, LIMIT)
+    assert explicit == (found != "too large to enumerate"), (left, right, mode, found)
+    counted = oracle("compare", *files, mode, LIMIT, LARGEST_TABLE).split()
     if counted == ["refused", "8", "2", "0"]:
-        return found + ["-"]
-    assert not explicit or counted[:2] == found, (left, right, mode, found, counted)
+        return (found.split() if explicit else [verdict, "-"]) + ["-"]
+    assert not explicit or counted[:2] == found.split(), (left, right, mode, found, counted)
     return counted
 
 
@@ -672,7 +673,9 @@ def write(name, lines):
 
 
 def main():
-    for make in (buffers, scheduler, alternating_bit, philosophers, gas_station, transport_handler, shuttle, joined_leaves):
+    families = (buffers, scheduler, alternating_bit, philosophers, gas_station, transport_handler, shuttle,
+                joined_leaves)
+    for make in families:
         make()
     title = ["# Channels, lines and states of the models", "", "Written by make.py. States are numbered from 0."]
     write("NAMES.md", title + names)
