@@ -1,8 +1,8 @@
 #!/usr/bin/env python3
 """Writes the model texts (*.hex), NAMES.md, EXPECTED.tsv and vectors.tsv from readable definitions.
 
-Run `python3 make.py` after building the oracle. The verdicts below were settled by argument
-(README.md); the script stops if the oracle gives another one.
+Run `python3 make.py` after building the oracle; it takes about 20 seconds. The verdicts below were settled
+by argument (README.md); the script stops if the oracle gives another one.
 """
 
 import os
@@ -15,9 +15,11 @@ TAU = "tau"
 LIMIT = 1_000_000
 PROGRAM_TABLE = 4096
 LARGEST_TABLE = 1 << 20
+MAX_BITS = 24
 
-names = []    # lines of NAMES.md
-pairs = []    # (left, right, strong verdict, weak verdict)
+names = []       # lines of NAMES.md
+pairs = []       # (left, right, mode, verdict, whether the oracle can enumerate the pairs of states)
+refusals = []    # (name, text, right, line): in this line the text gets more than MAX_BITS bits
 
 
 class Family:
@@ -100,11 +102,13 @@ class Model:
             line = self.add(body, f"relabel {line}, {old} becomes {to}")
         return line
 
+    def text(self):
+        assert len(self.frames) <= 64 and all(2 <= len(f) <= 255 for f in self.frames)
+        return "".join("".join(f"{byte:02X}" for byte in frame) + "\n" for frame in self.frames)
+
     def save(self, name):
-        assert len(self.frames) <= 64 and all(2 <= len(f) <= 255 for f in self.frames), name
-        with open(os.path.join(HERE, name + ".hex"), "w", newline="") as file:
-            for frame in self.frames:
-                file.write("".join(f"{byte:02X}" for byte in frame) + "\n")
+        with open(path(name), "w", newline="") as file:
+            file.write(self.text())
         write(name + ".names", [f"# The names of the numbers in {name}.hex."] + self.channels() + self.named)
         names.append(f"`{name}.hex`")
         names.extend(f"- {i}: {comment}" for i, comment in enumerate(self.comments))
@@ -123,13 +127,23 @@ class Model:
         return [f"{head} {n} {spelled(c)}" for c, n in self.family.numbers.items() if n in used]
 
 
+def path(name):
+    return os.path.join(HERE, name + ".hex")
+
+
 def spelled(name):
     """In quotes where the readable form of the command `seipolku` wants them."""
     return name if all(c.isalnum() or c in "_.'" for c in name) else f'"{name}"'
 
 
-def pair(left, right, strong, weak):
-    pairs.append((left, right, strong, weak))
+def pair(left, right, strong, weak, explicit=True):
+    """Explicit if the pairs of states are few enough for the oracle to enumerate them."""
+    pairs.extend((left, right, mode, verdict, explicit) for mode, verdict in ((0, strong), (1, weak)))
+
+
+def refused(name, model, right, line):
+    """A text that gets too many bits in this line: a vectors line, but no file, since all files are accepted."""
+    refusals.append((name, model.text(), right, line))
 
 
 def single_leaf(family, name, steps):
@@ -194,28 +208,45 @@ def scheduler():
                 ("started", TAU, "ended"), ("ended", "put!", "waits"),
                 ("started", "put!", "passed"), ("passed", TAU, "waits")]
 
-    def ring(count, tokens, name):
+    def placed(model, cell, i, count):
+        return model.relabel(cell, get=f"token{i}", start=f"task{i}", put=f"token{(i + 1) % count}")
+
+    def ring(count, tokens):
         model = Model(family)
         cell = model.leaf("cell", cell_steps())
         first = [(f"t{t}", "token0!", f"t{t + 1}") for t in range(tokens)]
         total = model.leaf("initialization", first)
         for i in range(count):
-            line = model.relabel(cell, get=f"token{i}", start=f"task{i}", put=f"token{(i + 1) % count}")
-            total = model.compose(total, line)
+            total = model.compose(total, placed(model, cell, i, count))
         model.restrict(total, [f"token{i}" for i in range(count)])
-        return model.save(name)
+        return model
+
+    def ring_first_chosen(count):
+        """No initialization: the first cell has the token at the start."""
+        model = Model(family)
+        cell = model.leaf("cell", cell_steps())
+        first = model.leaf("first cell", cell_steps(), states=["chosen"])
+        cells = [placed(model, cell if i else first, i, count) for i in range(count)]
+        model.restrict(model.compose(*cells), [f"token{i}" for i in range(count)])
+        return model
 
     def order(sequence, name):
         count = len(sequence)
         steps = [(f"s{i}", f"task{task}!", f"s{(i + 1) % count}") for i, task in enumerate(sequence)]
         return single_leaf(family, name, steps)
 
-    for count in (2, 3, 4, 5, 6):
-        system = ring(count, 1, f"scheduler{count}")
+    for count in (2, 3, 4, 5, 6, 7):
+        system = ring(count, 1).save(f"scheduler{count}")
         service = order(range(count), f"scheduler{count}_order")
-        pair(system, service, "different", "equal")
+        pair(system, service, "different", "equal", explicit=count < 7)
     pair("scheduler3", order([0, 2, 1], "scheduler3_wrong_order"), "different", "different")
-    pair(ring(3, 2, "scheduler3_two_tokens"), "scheduler3_order", "different", "different")
+    pair(ring(3, 2).save("scheduler3_two_tokens"), "scheduler3_order", "different", "different")
+
+    service = order(range(8), "scheduler8_order")
+    for count in (4, 8):
+        system = ring_first_chosen(count).save(f"scheduler{count}_first_chosen")
+        pair(system, f"scheduler{count}_order", "different", "equal", explicit=count < 8)
+    refused("scheduler8", ring(8, 1), service, 33)
     family.finish()
 
 
@@ -477,58 +508,163 @@ def shuttle():
         return model.save(name)
 
     for k in (1, 2, 3, 5, 7):
-        service = single_leaf(family, f"shuttle{k}_service", counter(k + 2, "move?", "done!"))
+        service = shuttle_service(family, k)
         pair(station(k, "survives", f"shuttle{k}"), service, "different", "equal")
         pair(station(k, "waits", f"shuttle{k}_flushed_first"), service, "different", "equal")
         pair(station(k, "loses", f"shuttle{k}_faulty"), service, "different", "different")
     pair("shuttle1", "shuttle1_flushed_first", "different", "equal")
     pair("shuttle1", "shuttle1_faulty", "different", "different")
     pair("shuttle2", "shuttle1_service", "different", "different")
+    shuttle_of_cells(family)
     family.finish()
 
 
-def oracle(*words):
-    done = subprocess.run(["nice", ORACLE, *map(str, words)], capture_output=True, text=True)
+def shuttle_service(family, k):
+    """Takes up to k + 2 moves: those of the journal, one in the host link and one in the drive."""
+    return single_leaf(family, f"shuttle{k}_service", counter(k + 2, "move?", "done!"))
+
+
+# The same with a journal made of cells: a write cell for the last move, then one-place cells.
+
+def write_cell(drop, hand):
+    """A move is handed on when it is flushed."""
+    kept = {"survives": "new", "loses": "empty"}[drop]
+    return [("empty", "log?", "new"), ("new", "flush!", "flushed"), ("flushed", hand, "empty"),
+            ("empty", "drop!", "empty"), ("new", "drop!", kept), ("flushed", "drop!", "flushed")]
+
+
+def chain(model, lines, count):
+    """The line of `count` cells in a row, made of two shorter rows; `lines` keeps the line of each length."""
+    if count not in lines:
+        front, back = chain(model, lines, count // 2), chain(model, lines, count - count // 2)
+        both = model.compose(model.relabel(front, out="hand"), model.relabel(back, **{"in": "hand"}))
+        lines[count] = model.restrict(both, ["hand"])
+    return lines[count]
+
+
+def journal_of_cells(model, cell, k, drop):
+    """The write cell and k - 1 further cells, the last of which hands over to the drive."""
+    if k == 1:
+        return model.leaf("write cell", write_cell(drop, "go!"))
+    write = model.leaf("write cell", write_cell(drop, "hand!"))
+    cells = model.relabel(chain(model, {1: cell}, k - 1), **{"in": "hand", "out": "go"})
+    return model.restrict(model.compose(write, cells), ["hand"])
+
+
+def station_of_cells(family, k, drop):
+    """While the supply is not on, nothing is flushed, handed to the drive, carried out or done."""
+    model = Model(family)
+    cell = model.leaf("one-place cell", [("empty", "in?", "full"), ("full", "out!", "empty")])
+    link = model.relabel(cell, **{"in": "move", "out": "log"})
+    journal = journal_of_cells(model, cell, k, drop)
+    drive = model.leaf("drive", [("idle", "go!", "moving"), ("moving", "arrive!", "arrived"),
+                                 ("arrived", "done!", "idle")])
+    powered = ["flush", "go", "arrive", "done"]
+    turns = [("on", "drop!", "off"), ("off", "up!", "starting"), ("starting", "ready!", "on")]
+    supply = model.leaf("supply", turns + [("on", word + "!", "on") for word in powered])
+    driven = model.joint(journal, drive, ["go"])
+    whole = model.joint(driven, supply, ["drop"] + powered)
+    inner = model.hide(whole, ["drop", "up", "ready", "flush", "go", "arrive"])
+    model.restrict(model.compose(link, inner), ["log"])
+    return model
+
+
+def shuttle_of_cells(family):
+    def both(k):
+        """The names of the right station and of the faulty one."""
+        return [station_of_cells(family, k, drop).save(f"shuttle{k}_cells{ending}")
+                for drop, ending in (("survives", ""), ("loses", "_faulty"))]
+
+    largest = MAX_BITS - 6    # k cells with link, drive and supply have k + 6 bits
+    stations = {k: both(k) for k in (1, 2, 3, 4, 5, 6, 8, 9, 16, largest)}
+    for k in (8, 9, 16, largest):
+        shuttle_service(family, k)
+    for k in (1, 2, 3, 8, 9, 16, largest):
+        right, faulty = stations[k]
+        pair(right, f"shuttle{k}_service", "different", "equal", explicit=k <= 9)
+        pair(faulty, f"shuttle{k}_service", "different", "different", explicit=k <= 9)
+    for k in (3, 4, 5, 6):
+        pair(*stations[k], "different", "different")
+    above = station_of_cells(family, largest + 1, "survives")
+    refused(f"shuttle{largest + 1}_cells", above, f"shuttle{largest}_service", 37)
+
+
+# Copies of one leaf that step together: one bit each.
+
+def joined_leaves():
+    family = Family("Joined leaves")
+
+    def joined(count):
+        model = Model(family)
+        leaf = model.leaf("two-state leaf", [("down", "turn!", "up"), ("up", "turn?", "down")])
+        total = leaf
+        for _ in range(count - 1):
+            total = model.joint(total, leaf, ["turn"])
+        return model
+
+    one = joined(1).save("joined1")
+    pair(joined(MAX_BITS).save(f"joined{MAX_BITS}"), one, "equal", "equal", explicit=False)
+    refused(f"joined{MAX_BITS + 1}", joined(MAX_BITS + 1), one, MAX_BITS)
+    family.finish()
+
+
+def oracle(*words, text=""):
+    done = subprocess.run(["nice", ORACLE, *map(str, words)], capture_output=True, text=True, input=text)
     return done.stdout.strip() or done.stderr.strip()
 
 
-def answer(left, right, mode):
-    """Verdict and rounds by explicit pairs, and nodes; `-` where the list fits no table."""
-    files = [os.path.join(HERE, name + ".hex") for name in (left, right)]
-    found = oracle("verdict", *files, mode, LIMIT).split()
+def answer(left, right, mode, verdict, explicit):
+    """Verdict and rounds by explicit pairs, and nodes; `-` where the list fits no table. Without explicit pairs
+    the list gives the verdict and the rounds too; if it fits no table, the argued verdict stands with `-` for both."""
+    files = path(left), path(right)
+    found = oracle("verdict", *files, mode, LIMIT)
+    assert explicit == (found != "too large to enumerate"), (left, right, mode, found)
     counted = oracle("compare", *files, mode, LIMIT, LARGEST_TABLE).split()
     if counted == ["refused", "8", "2", "0"]:
-        return found + ["-"]
-    assert counted[:2] == found, (left, right, mode, found, counted)
+        return (found.split() if explicit else [verdict, "-"]) + ["-"]
+    assert not explicit or counted[:2] == found.split(), (left, right, mode, found, counted)
     return counted
+
+
+def vector(left, text, right, mode, length, result):
+    with open(path(right)) as file:
+        texts = [t.replace("\n", "/") for t in (text, file.read())]
+    name = f"{left} {right} {'weak' if mode else 'strong'} {length}"
+    return "\t".join([name, *texts, str(mode), str(LIMIT), str(length), result])
 
 
 def vectors(left, right, mode, found):
     """The pair as vectors lines, with the program's table and with the largest one."""
-    texts = []
-    for name in (left, right):
-        with open(os.path.join(HERE, name + ".hex")) as file:
-            texts.append(file.read().replace("\n", "/"))
+    with open(path(left)) as file:
+        text = file.read()
     for length in (PROGRAM_TABLE, LARGEST_TABLE):
         fits = found[2] != "-" and int(found[2]) <= length - 2
         result = " ".join(found) if fits else "refused 8 2 0"
-        name = f"{left} {right} {'weak' if mode else 'strong'} {length}"
-        yield "\t".join([name, *texts, str(mode), str(LIMIT), str(length), result])
+        yield vector(left, text, right, mode, length, result)
 
 
 def expected():
     rows = ["# left\tright\tmode\tverdict\trounds\tnodes"]
     lines = ["# name\tleft\tright\tmode\tlimit\tL\tanswer"]
-    for left, right, strong, weak in pairs:
-        for mode, verdict in ((0, strong), (1, weak)):
-            found = answer(left, right, mode)
-            print(left, right, mode, *found, flush=True)
-            if found[0] != verdict:
-                sys.exit(f"expected {verdict}")
-            rows.append("\t".join([left + ".hex", right + ".hex", str(mode), *found]))
-            lines.extend(vectors(left, right, mode, found))
+    for left, right, mode, verdict, explicit in pairs:
+        found = answer(left, right, mode, verdict, explicit)
+        print(left, right, mode, *found, flush=True)
+        if found[0] != verdict:
+            sys.exit(f"expected {verdict}")
+        rows.append("\t".join([left + ".hex", right + ".hex", str(mode), *found]))
+        lines.extend(vectors(left, right, mode, found))
     write("EXPECTED.tsv", rows)
-    write("vectors.tsv", lines)
+    write("vectors.tsv", lines + [refusal(*r) for r in refusals])
+
+
+def refusal(left, text, right, line):
+    """A refused text as a vectors line."""
+    result = f"refused 6 0 {line}"
+    found = oracle("compare", "/dev/stdin", path(right), 0, LIMIT, LARGEST_TABLE, text=text)
+    print(left, found)
+    if found != result:
+        sys.exit(f"expected {result}")
+    return vector(left, text, right, 0, LARGEST_TABLE, result)
 
 
 def write(name, lines):
@@ -537,7 +673,9 @@ def write(name, lines):
 
 
 def main():
-    for make in (buffers, scheduler, alternating_bit, philosophers, gas_station, transport_handler, shuttle):
+    families = (buffers, scheduler, alternating_bit, philosophers, gas_station, transport_handler, shuttle,
+                joined_leaves)
+    for make in families:
         make()
     title = ["# Channels, lines and states of the models", "", "Written by make.py. States are numbered from 0."]
     write("NAMES.md", title + names)

@@ -2,7 +2,7 @@
 
 pub const TAU: u8 = 0;
 pub const MAX_LINES: usize = 64;
-pub const MAX_BITS: u32 = 20;
+pub const MAX_BITS: u32 = 24;
 pub const MAX_USES: u32 = 64;
 
 /// A set of channels 1 to 31, one bit a channel.
