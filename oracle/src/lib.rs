@@ -15,6 +15,7 @@ pub mod lookup;
 pub mod model;
 pub mod random;
 pub mod reader;
+pub mod requests;
 pub mod steps;
 pub mod stream;
 pub mod tables;
