@@ -2,13 +2,15 @@
 
 use std::collections::BTreeSet;
 
-use oracle::answer::{Answer, Known};
+use oracle::answer::{Answer, Known, MAX_TABLE};
 use oracle::calls::{any_pair, calls, Call, Pair};
-use oracle::lookup::{look_up, Ask};
-use oracle::model::{Channels, Line, Model, Process, TAU};
+use oracle::generate::{FORMER_BITS, WIDE};
+use oracle::lookup::{codes, last_level, look_up, Ask};
+use oracle::model::{Channels, Line, Model, Process, MAX_BITS, TAU};
 use oracle::random::Random;
-use oracle::reader::read;
+use oracle::reader::{read, Refusal};
 use oracle::tables::{any_ask, any_table, Table};
+use oracle::texts::any_text;
 
 const SEED: u64 = 1;
 const CASES: u64 = 5000;
@@ -141,16 +143,81 @@ fn every_length_comes_up() {
         }
     }
     assert_eq!(work.len(), 3 * 4);
-    assert!([0, 1, 2, 1 << 20, (1 << 20) + 1].iter().all(|length| table.contains(length)));
+    assert!([0, 1, 2, MAX_TABLE, MAX_TABLE + 1].iter().all(|length| table.contains(length)));
     assert!([0, 1, 2, u64::MAX].iter().all(|limit| limits.contains(limit)));
     // The other limits are products of numbers of states.
     assert!(limits.len() > 20);
 }
 
+/// Each line of a text that has a width of `WIDE`, up to the one that is refused by its bits: the width, and whether the
+/// last line is it or uses it.
+fn wide_lines(text: &[u8]) -> Vec<(u32, bool)> {
+    let lines: Vec<&[u8]> = text.split_inclusive(|&byte| byte == b'\n').collect();
+    let (model, refused) = match read(text) {
+        Ok(model) => (model, None),
+        Err(Refusal { number: 6, line }) => {
+            let Ok(model) = read(&lines[..line].concat()) else { return vec![] };
+            let width = joined_bits(lines[line], &model);
+            (model, Some((width, line + 1 == lines.len())))
+        }
+        Err(_) => return vec![],
+    };
+    let used = if refused.is_none() { model.used() } else { vec![false; model.lines.len()] };
+    let widths = model.lines.iter().map(Line::bits).zip(used);
+    widths.chain(refused).filter(|(bits, _)| WIDE.contains(bits)).collect()
+}
+
+/// The bits of a line that joins two lines of the model.
+fn joined_bits(line: &[u8], model: &Model) -> u32 {
+    let digits = std::str::from_utf8(line).expect("refused by its bits");
+    let operand = |place| usize::from_str_radix(&digits[place..place + 2], 16).expect("digits");
+    model.lines[operand(4)].bits() + model.lines[operand(6)].bits()
+}
+
+#[test]
+fn every_width_about_the_limit_comes_up_used_and_unused() {
+    let texts = (0..CASES).map(|case| any_text(&mut Random::of_case(SEED, case)));
+    let seen: BTreeSet<_> = texts.flat_map(|text| wide_lines(&text)).collect();
+    assert_eq!(seen, WIDE.into_iter().flat_map(|bits| [(bits, false), (bits, true)]).collect());
+}
+
+/// Where the list fits, both models' bits with the verdict; where the bits are too many, the side.
+fn wide_sorts(pair: &Pair) -> Vec<(u32, usize, &'static str)> {
+    let bits =
+        [&pair.left, &pair.right].map(|text| read(text).map_or(MAX_BITS + 1, |model| model.last().bits()));
+    let sort = match &pair.known {
+        Known::Refused(Answer::Refused { number: 6, .. }) => "refused",
+        Known::Traced(trace) => match trace.answer(u64::MAX, MAX_TABLE) {
+            Answer::Equal { .. } => "equal",
+            Answer::Different { .. } => "different",
+            Answer::Refused { .. } => "full",
+        },
+        Known::Refused(_) => return vec![],
+    };
+    bits.into_iter()
+        .zip(0..)
+        .map(|(bits, side)| (bits, side, sort))
+        .filter(|wide| WIDE.contains(&wide.0))
+        .collect()
+}
+
+#[test]
+fn comparisons_of_every_width_about_the_limit_come_up() {
+    let seen: BTreeSet<_> = pairs().flat_map(|(pair, _)| wide_sorts(&pair)).collect();
+    for side in [0, 1] {
+        for bits in [FORMER_BITS, FORMER_BITS + 1, MAX_BITS] {
+            assert!(
+                ["equal", "different", "full"].iter().all(|sort| seen.contains(&(bits, side, sort))),
+                "{seen:?}"
+            );
+        }
+        assert!(seen.contains(&(MAX_BITS + 1, side, "refused")), "{seen:?}");
+    }
+}
+
 /// The edges of a look-up's arguments, each with whether it is due here.
 fn edges(table: &Table, ask: &Ask) -> Vec<(&'static str, bool)> {
     let length = table.lengths[0] as u64;
-    let has_level = |level: u8| table.entries.iter().any(|(_, entry)| entry.level == level);
     let child =
         |to: u64| table.entries.iter().any(|(_, e)| u64::from(e.low) == to || u64::from(e.high) == to);
     let loops = table.entries.iter().any(|(at, e)| *at > 1 && (e.low == *at as u32 || e.high == *at as u32));
@@ -159,8 +226,8 @@ fn edges(table: &Table, ask: &Ask) -> Vec<(&'static str, bool)> {
         ("lengths 0", lengths(0)),
         ("lengths 1", lengths(1)),
         ("lengths 2", lengths(2)),
-        ("longest", lengths(1 << 20)),
-        ("too long", lengths((1 << 20) + 1)),
+        ("longest", lengths(MAX_TABLE)),
+        ("too long", lengths(MAX_TABLE + 1)),
         ("level unequal", table.lengths[0] != table.lengths[1] && table.lengths[1] == table.lengths[2]),
         ("low unequal", table.lengths[0] != table.lengths[1] && table.lengths[0] == table.lengths[2]),
         ("high unequal", table.lengths[0] != table.lengths[2] && table.lengths[0] == table.lengths[1]),
@@ -169,12 +236,6 @@ fn edges(table: &Table, ask: &Ask) -> Vec<(&'static str, bool)> {
         ("action 63", ask.action == 63),
         ("action 64", ask.action == 64),
         ("action 2^64 - 1", ask.action == u64::MAX),
-        ("last code", ask.codes.contains(&((1 << 20) - 1))),
-        ("first code out of range", ask.codes.contains(&(1 << 20))),
-        ("level 125", has_level(125)),
-        ("level 126", has_level(126)),
-        ("level 254", has_level(254)),
-        ("level 255", has_level(255)),
         ("child beyond", child(length)),
         ("child far beyond", child(u32::MAX.into())),
         ("cycle", loops),
@@ -193,7 +254,7 @@ fn every_edge_of_a_look_up_comes_up() {
             let edges = edges(&table, &ask);
             all.extend(edges.iter().map(|edge| edge.0));
             due.extend(edges.iter().filter(|edge| edge.1).map(|edge| edge.0));
-            if table.lengths == [1 << 20; 3] && ask.root > 1 << 19 {
+            if table.lengths == [MAX_TABLE; 3] && ask.root as usize > MAX_TABLE / 2 {
                 far.insert(look_up(&slices, &ask));
             }
         }
@@ -201,4 +262,52 @@ fn every_edge_of_a_look_up_comes_up() {
     assert_eq!(due, all);
     // Walks that start in the second half of the longest table have every answer.
     assert_eq!(far, [0, 1, 10].into());
+}
+
+/// Asks of the tables of a short run that refusal 7 is not due of.
+fn asks() -> impl Iterator<Item = (Table, Ask, u64)> {
+    (0..3000).flat_map(|case| {
+        let mut random = Random::of_case(SEED, case);
+        let table = any_table(&mut random);
+        let slices = table.slices();
+        let ask = |_| {
+            let ask = any_ask(&mut random, &table);
+            (table.clone(), ask, look_up(&slices, &ask))
+        };
+        (0..16).map(ask).filter(|&(_, _, answer)| answer != 7).collect::<Vec<_>>()
+    })
+}
+
+#[test]
+fn every_code_at_an_end_comes_up_in_each_place_with_each_root() {
+    let ends = [codes(FORMER_BITS), codes(MAX_BITS) - 1, codes(MAX_BITS)];
+    let mut seen = BTreeSet::new();
+    for (_, ask, answer) in asks() {
+        let at_end = |&(_, code): &(usize, u64)| ends.contains(&code);
+        seen.extend(
+            ask.codes
+                .into_iter()
+                .enumerate()
+                .filter(at_end)
+                .map(|(place, code)| (place, code, ask.root.min(2), answer)),
+        );
+    }
+    // With root 0 and 1, and from a node on walks to 0, 1 and 10; with the first code out of range 10 alone.
+    assert_eq!(seen.len(), 4 * (2 * (2 + 3) + 3), "{seen:?}");
+}
+
+#[test]
+fn a_root_at_every_level_at_an_end_comes_up() {
+    let (former, last) = (last_level(FORMER_BITS), last_level(MAX_BITS));
+    let mut seen = BTreeSet::new();
+    for (table, ask, answer) in
+        asks().filter(|(_, ask, _)| ask.action < 64 && ask.codes.iter().all(|&code| code < codes(MAX_BITS)))
+    {
+        let root = table.entries.iter().find(|(index, _)| *index as u64 == ask.root && ask.root > 1);
+        seen.extend(root.map(|(_, entry)| (entry.level, answer)));
+    }
+    let answers =
+        |level: u8| seen.iter().filter(|seen| seen.0 == level).map(|seen| seen.1).collect::<Vec<_>>();
+    assert!([former, former + 1, last].iter().all(|&level| answers(level) == [0, 1, 10]), "{seen:?}");
+    assert!([last + 1, 254, 255].iter().all(|&level| answers(level) == [10]), "{seen:?}");
 }
