@@ -31,15 +31,24 @@ static int fault(const char *name) {
 static int digit(uint8_t byte) { return byte <= '9' ? byte - '0' : byte - 'A' + 10; }
 static unsigned value(const uint8_t *digits) { return (unsigned)(16 * digit(digits[0]) + digit(digits[1])); }
 
+static unsigned width_of(unsigned states) {
+    unsigned width = 0;
+    while (states > 1u << width) width++;
+    return width;
+}
+
+static const uint8_t *after_line(const uint8_t *text) {
+    while (*text++ != '\n');
+    return text;
+}
+
 /* The bits of a line in a text that is accepted up to it, or refused there by its bits or uses. */
 static unsigned bits_of(const uint8_t *text, uint64_t line) {
     unsigned bits[MAX_LINES];
-    for (uint64_t k = 0; k <= line; k++) {
-        unsigned kind = value(text + 2), first = value(text + 4), width = 0;
-        while (first > 1u << width) width++;
-        bits[k] = kind == LEAF ? width : bits[first];
+    for (uint64_t k = 0; k <= line; k++, text = after_line(text)) {
+        unsigned kind = value(text + 2), first = value(text + 4);
+        bits[k] = kind == LEAF ? width_of(first) : bits[first];
         if (kind == COMPOSE || kind == JOINT) bits[k] += bits[value(text + 6)];
-        while (*text++ != '\n');
     }
     return bits[line];
 }
