@@ -3,6 +3,7 @@
 use std::collections::BTreeSet;
 
 use oracle::answer::{Answer, Known, MAX_TABLE};
+use oracle::bisim::Outcome;
 use oracle::calls::{any_pair, calls, Call, Pair};
 use oracle::generate::{FORMER_BITS, WIDE};
 use oracle::lookup::{codes, last_level, look_up, Ask};
@@ -149,22 +150,18 @@ fn every_length_comes_up() {
     assert!(limits.len() > 20);
 }
 
-/// Each line of a text that has a width of `WIDE`, up to the one that is refused by its bits: the width, and whether the
-/// last line is it or uses it.
-fn wide_lines(text: &[u8]) -> Vec<(u32, bool)> {
+/// The most bits of a line, and whether the last line is it or uses it; of a text that is refused by its bits, those of the
+/// line that is refused. None of another refused text.
+fn widest(text: &[u8]) -> Option<(u32, bool)> {
     let lines: Vec<&[u8]> = text.split_inclusive(|&byte| byte == b'\n').collect();
-    let (model, refused) = match read(text) {
-        Ok(model) => (model, None),
+    match read(text) {
+        Ok(model) => model.lines.iter().map(Line::bits).zip(model.used()).max(),
         Err(Refusal { number: 6, line }) => {
-            let Ok(model) = read(&lines[..line].concat()) else { return vec![] };
-            let width = joined_bits(lines[line], &model);
-            (model, Some((width, line + 1 == lines.len())))
+            let before = read(&lines[..line].concat()).ok()?;
+            Some((joined_bits(lines[line], &before), line + 1 == lines.len()))
         }
-        Err(_) => return vec![],
-    };
-    let used = if refused.is_none() { model.used() } else { vec![false; model.lines.len()] };
-    let widths = model.lines.iter().map(Line::bits).zip(used);
-    widths.chain(refused).filter(|(bits, _)| WIDE.contains(bits)).collect()
+        Err(_) => None,
+    }
 }
 
 /// The bits of a line that joins two lines of the model.
@@ -175,44 +172,34 @@ fn joined_bits(line: &[u8], model: &Model) -> u32 {
 }
 
 #[test]
-fn every_width_about_the_limit_comes_up_used_and_unused() {
+fn texts_of_every_width_about_the_limit_come_up() {
     let texts = (0..CASES).map(|case| any_text(&mut Random::of_case(SEED, case)));
-    let seen: BTreeSet<_> = texts.flat_map(|text| wide_lines(&text)).collect();
-    assert_eq!(seen, WIDE.into_iter().flat_map(|bits| [(bits, false), (bits, true)]).collect());
+    let seen: BTreeSet<_> = texts.filter_map(|text| widest(&text)).collect();
+    let wanted = WIDE.into_iter().flat_map(|bits| [(bits, false), (bits, true)]).collect();
+    assert!(seen.is_superset(&wanted), "{seen:?}");
 }
 
-/// Where the list fits, both models' bits with the verdict; where the bits are too many, the side.
-fn wide_sorts(pair: &Pair) -> Vec<(u32, usize, &'static str)> {
-    let bits =
-        [&pair.left, &pair.right].map(|text| read(text).map_or(MAX_BITS + 1, |model| model.last().bits()));
-    let sort = match &pair.known {
-        Known::Refused(Answer::Refused { number: 6, .. }) => "refused",
-        Known::Traced(trace) => match trace.answer(u64::MAX, MAX_TABLE) {
-            Answer::Equal { .. } => "equal",
-            Answer::Different { .. } => "different",
-            Answer::Refused { .. } => "full",
-        },
+/// The most bits that a model of the pair uses, with its side and the answer.
+fn width_sorts(pair: &Pair) -> Vec<(u32, u8, &'static str)> {
+    let (sides, sort) = match &pair.known {
+        Known::Refused(Answer::Refused { number: 6, side, .. }) => (vec![*side], "refused"),
         Known::Refused(_) => return vec![],
+        Known::Traced(trace) if trace.end.is_err() => (vec![0, 1], "full"),
+        Known::Traced(trace) if matches!(trace.end, Ok(Outcome::Equal(_))) => (vec![0, 1], "equal"),
+        Known::Traced(_) => (vec![0, 1], "different"),
     };
-    bits.into_iter()
-        .zip(0..)
-        .map(|(bits, side)| (bits, side, sort))
-        .filter(|wide| WIDE.contains(&wide.0))
-        .collect()
+    let used = |side: u8| widest(if side == 0 { &pair.left } else { &pair.right }).filter(|width| width.1);
+    sides.into_iter().filter_map(|side| Some((used(side)?.0, side, sort))).collect()
 }
 
 #[test]
 fn comparisons_of_every_width_about_the_limit_come_up() {
-    let seen: BTreeSet<_> = pairs().flat_map(|(pair, _)| wide_sorts(&pair)).collect();
-    for side in [0, 1] {
-        for bits in [FORMER_BITS, FORMER_BITS + 1, MAX_BITS] {
-            assert!(
-                ["equal", "different", "full"].iter().all(|sort| seen.contains(&(bits, side, sort))),
-                "{seen:?}"
-            );
-        }
-        assert!(seen.contains(&(MAX_BITS + 1, side, "refused")), "{seen:?}");
-    }
+    let seen: BTreeSet<_> = pairs().flat_map(|(pair, _)| width_sorts(&pair)).collect();
+    let accepted = |bits| ["equal", "different", "full"].map(|sort| (bits, sort));
+    let sorts = [FORMER_BITS, FORMER_BITS + 1, MAX_BITS].into_iter().flat_map(accepted);
+    let sorts = sorts.chain([(MAX_BITS + 1, "refused")]);
+    let wanted = sorts.flat_map(|(bits, sort)| [(bits, 0, sort), (bits, 1, sort)]).collect();
+    assert!(seen.is_superset(&wanted), "{seen:?}");
 }
 
 /// The edges of a look-up's arguments, each with whether it is due here.
