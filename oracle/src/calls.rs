@@ -78,10 +78,10 @@ impl Pair {
 pub fn any_pair(random: &mut Random) -> Pair {
     let mode = random.pick(&[Mode::Strong, Mode::Weak]);
     let budget = random.pick(&[2, 3, 4, 5, 6]);
-    let (left, right) = match random.below(64) {
-        0 => pair(random, 9),
-        1 => chain_pair(random),
-        2 => wide_pair(random),
+    let (left, right) = match random.below(128) {
+        0 | 1 => pair(random, 9),
+        2 | 3 => chain_pair(random),
+        4 => wide_pair(random),
         _ => pair(random, budget),
     };
     let (mut left, mut right) = (text(&left), text(&right));
