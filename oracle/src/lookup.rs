@@ -1,4 +1,4 @@
-//! The look-up over any three slices, written from document 01's table of calls.
+//! The look-up over any three slices, written from document 01's table of calls and document 02's point 1.
 
 use crate::answer::MAX_TABLE;
 use crate::model::MAX_BITS;

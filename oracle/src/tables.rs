@@ -141,18 +141,21 @@ pub fn any_ask(random: &mut Random, table: &Table) -> Ask {
     match random.below(12) {
         0 => ask.root = random.pick(&[0, 1, 2, length.wrapping_sub(1), length, length + 1]),
         1 => ask.root = random.pick(&[MAX_TABLE as u64, (1 << 32) + first, 1 << 32, (1 << 32) + 1, u64::MAX]),
-        2 => ask.action = random.pick(&[0, 62, 63, 64, 65, 127, 256, 1 << 32, u64::MAX]),
-        3 => edge_code(random, &mut ask),
+        2 | 3 => edge_number(random, &mut ask),
         _ => {}
     }
     ask
 }
 
-/// A code at an edge in one of the places; at times the root is a constant, which the codes are judged before.
-fn edge_code(random: &mut Random, ask: &mut Ask) {
-    let edges = [0, FORMER_CODES, CODES - 1, CODES - 1, CODES, CODES, CODES + 1, 1 << 32, u64::MAX];
-    ask.codes[random.below(4)] = random.pick(&edges);
+/// An action or a code at an edge; at times from a constant, where both are judged all the same.
+fn edge_number(random: &mut Random, ask: &mut Ask) {
+    let codes = [0, FORMER_CODES, CODES - 1, CODES - 1, CODES, CODES, CODES + 1, 1 << 32, u64::MAX];
     ask.root = random.pick(&[ask.root, ask.root, 0, 1]);
+    if random.once_in(2) {
+        ask.action = random.pick(&[0, 62, 63, 64, 65, 127, 256, 1 << 32, u64::MAX]);
+    } else {
+        ask.codes[random.below(4)] = random.pick(&codes);
+    }
 }
 
 #[cfg(test)]

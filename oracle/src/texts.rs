@@ -26,7 +26,7 @@ fn accepted(random: &mut Random) -> Vec<u8> {
     text(&model(random, budget))
 }
 
-/// A line with as many bits as may be, or a bit more; also as many as could be once.
+/// A line with as many bits as are allowed, or were before document 02's point 1, or a bit more.
 fn at_the_ends(random: &mut Random) -> Vec<u8> {
     let bits = random.pick(&WIDE);
     text(&wide(random, bits))

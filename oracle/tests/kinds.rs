@@ -223,6 +223,8 @@ fn edges(table: &Table, ask: &Ask) -> Vec<(&'static str, bool)> {
         ("root above 32 bits", ask.root >= 1 << 32),
         ("action 63", ask.action == 63),
         ("action 64", ask.action == 64),
+        ("action 64 from 0", ask.action == 64 && ask.root == 0),
+        ("action 64 from 1", ask.action == 64 && ask.root == 1),
         ("action 2^64 - 1", ask.action == u64::MAX),
         ("child beyond", child(length)),
         ("child far beyond", child(u32::MAX.into())),

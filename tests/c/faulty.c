@@ -155,7 +155,7 @@ static uint8_t *level_fault(uint8_t *level, size_t level_len) {
 
 uint64_t __wrap_seipolku_look_up(LOOK_UP_ARGUMENTS) {
     uint64_t code[4] = {left_now, left_next, right_now, right_next};
-    if (fault("action cut")) action &= 63;
+    if (fault("action cut") || (fault("action not judged at a constant") && root < 2)) action &= 63;
     code_fault(root, code);
     if (fault("root cut")) root = (uint32_t)root;
     if (fault("too long a table taken") && level_len == LONGEST + 1 && low_len == level_len && high_len == level_len) level_len--, low_len--, high_len--;
