@@ -1,8 +1,8 @@
 //! Generated comparisons with all that is lent to them, and their expected answers.
 
-use crate::answer::{known, mode_of, table_fits, Answer, Known};
+use crate::answer::{known, mode_of, table_fits, Answer, Known, MAX_TABLE};
 use crate::bisim::Mode;
-use crate::generate::{chain_pair, malformed, pair, text};
+use crate::generate::{chain_pair, malformed, pair, text, wide_pair};
 use crate::random::Random;
 use crate::reader::read;
 
@@ -78,9 +78,10 @@ impl Pair {
 pub fn any_pair(random: &mut Random) -> Pair {
     let mode = random.pick(&[Mode::Strong, Mode::Weak]);
     let budget = random.pick(&[2, 3, 4, 5, 6]);
-    let (left, right) = match random.below(64) {
-        0 => pair(random, 9),
-        1 => chain_pair(random),
+    let (left, right) = match random.below(128) {
+        0 | 1 => pair(random, 9),
+        2 | 3 => chain_pair(random),
+        4 => wide_pair(random),
         _ => pair(random, budget),
     };
     let (mut left, mut right) = (text(&left), text(&right));
@@ -158,11 +159,10 @@ fn unequal(random: &mut Random, length: usize) -> [usize; 3] {
 
 /// At times the longest table, or one that is too long by an entry.
 fn long(random: &mut Random, pair: &Pair) -> [usize; 3] {
-    let longest = 1 << 20;
     match random.below(32) {
-        0 if pair.has_verdict() => [longest; 3],
-        1 => [longest + 1; 3],
-        2 => [longest, longest + 1, longest],
+        0 if pair.has_verdict() => [MAX_TABLE; 3],
+        1 => [MAX_TABLE + 1; 3],
+        2 => [MAX_TABLE, MAX_TABLE + 1, MAX_TABLE],
         _ => [pair.needed() + 2; 3],
     }
 }

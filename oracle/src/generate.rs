@@ -1,6 +1,6 @@
 //! Generated models, malformed texts and comparisons.
 
-use crate::answer::Answer;
+use crate::answer::{Answer, MAX_TABLE};
 use crate::model::{width, MAX_BITS, MAX_USES};
 use crate::random::Random;
 use crate::vectors::Case;
@@ -17,6 +17,12 @@ const JOINT: u8 = 6;
 pub const LIMIT: u64 = 1_000_000;
 pub const LENGTH: usize = 1 << 16;
 
+/// What `MAX_BITS` was before document 02's point 1: models and look-ups about this end are tried too.
+pub const FORMER_BITS: u32 = 20;
+
+/// Numbers of bits at and above both ends.
+pub const WIDE: [u32; 4] = [FORMER_BITS, FORMER_BITS + 1, MAX_BITS, MAX_BITS + 1];
+
 /// Frames to text.
 pub fn text(frames: &[Frame]) -> Vec<u8> {
     let line = |frame: &Frame| frame.iter().map(|b| format!("{b:02X}")).collect::<String>() + "\n";
@@ -25,13 +31,28 @@ pub fn text(frames: &[Frame]) -> Vec<u8> {
 
 /// An accepted model of at most `budget` bits; some of its lines may be unused.
 pub fn model(random: &mut Random, budget: u32) -> Vec<Frame> {
-    let palette: Vec<u8> = (0..1 + random.below(3)).map(|_| channel(random)).collect();
-    let quiet = random.once_in(4);
-    let mut builder = Builder { random, palette, quiet, budget, frames: vec![], bits: vec![] };
+    let mut builder = Builder::new(random, budget);
     let most = builder.random.pick(&[8, 8, 16]);
     let lines = 1 + builder.random.below(most);
     for _ in 0..lines {
         builder.add_line();
+    }
+    builder.frames
+}
+
+/// A model with a line of exactly so many bits: leaves joined one by one. In one of three a small last line follows, which
+/// does not use them.
+pub fn wide(random: &mut Random, bits: u32) -> Vec<Frame> {
+    let mut builder = Builder::new(random, bits);
+    let mut joined = builder.add_narrow_leaf(bits);
+    while builder.bits[joined] < bits {
+        let leaf = builder.add_narrow_leaf(bits - builder.bits[joined]);
+        let kind = builder.random.pick(&[COMPOSE, JOINT]);
+        let (body, sum) = builder.binary(kind, joined, leaf);
+        joined = builder.add(body, sum);
+    }
+    if builder.random.once_in(3) {
+        builder.add_narrow_leaf(2);
     }
     builder.frames
 }
@@ -52,7 +73,21 @@ struct Builder<'a> {
     bits: Vec<u32>,
 }
 
-impl Builder<'_> {
+impl<'a> Builder<'a> {
+    fn new(random: &'a mut Random, budget: u32) -> Self {
+        let palette: Vec<u8> = (0..1 + random.below(3)).map(|_| channel(random)).collect();
+        let quiet = random.once_in(4);
+        Builder { random, palette, quiet, budget, frames: vec![], bits: vec![] }
+    }
+
+    /// Adds a line with this frame but for its number, which is returned.
+    fn add(&mut self, body: Frame, bits: u32) -> usize {
+        let number = self.frames.len();
+        self.frames.push([vec![number as u8], body].concat());
+        self.bits.push(bits);
+        number
+    }
+
     fn add_line(&mut self) {
         let kind = self.random.pick(&[LEAF, LEAF, COMPOSE, COMPOSE, RESTRICT, RELABEL, HIDE, JOINT, JOINT]);
         let (body, bits) = match kind {
@@ -64,9 +99,19 @@ impl Builder<'_> {
             RESTRICT | HIDE | RELABEL => self.unary(kind),
             _ => self.leaf(),
         };
-        let number = self.frames.len() as u8;
-        self.frames.push([vec![number], body].concat());
-        self.bits.push(bits);
+        self.add(body, bits);
+    }
+
+    /// A leaf of 1 to `most` bits, mostly 1, with few triples.
+    fn add_narrow_leaf(&mut self, most: u32) -> usize {
+        let any = 1 + self.random.below(most.min(6) as usize) as u32;
+        let bits = self.random.pick(&[1, 1, any]);
+        let states = (1 << (bits - 1)) + 1 + self.random.below(1 << (bits - 1)) as u8;
+        let mut body = vec![LEAF, states];
+        for _ in 0..self.random.below(3) {
+            body.extend(self.triple(states));
+        }
+        self.add(body, bits)
     }
 
     fn leaf(&mut self) -> (Frame, u32) {
@@ -195,11 +240,23 @@ pub fn pair(random: &mut Random, budget: u32) -> (Vec<Frame>, Vec<Frame>) {
         return (one, model(random, budget));
     }
     let other = (0..changes).fold(one.clone(), |frames, _| variant(random, &frames));
+    in_any_order(random, one, other)
+}
+
+fn in_any_order<T>(random: &mut Random, one: T, other: T) -> (T, T) {
     if random.once_in(2) {
         (one, other)
     } else {
         (other, one)
     }
+}
+
+/// A model about as large as may be, and one close to it or a small one.
+pub fn wide_pair(random: &mut Random) -> (Vec<Frame>, Vec<Frame>) {
+    let bits = random.pick(&WIDE);
+    let one = wide(random, bits);
+    let other = if random.once_in(2) { variant(random, &one) } else { model(random, 3) };
+    in_any_order(random, one, other)
 }
 
 /// A chain of steps and one that is shorter, closed or the same: verdicts after many rounds.
@@ -258,7 +315,7 @@ fn bad_call(random: &mut Random) -> Case {
     match random.below(3) {
         0 => case.mode = 2 + random.draw() % 300,
         1 => case.length = random.below(2),
-        _ => case.length = (1 << 20) + 1 + random.below(1000),
+        _ => case.length = MAX_TABLE + 1 + random.below(1000),
     }
     case
 }

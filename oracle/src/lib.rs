@@ -1,4 +1,5 @@
-//! An explicit-state program for comparing models, written from document 01 alone.
+//! An explicit-state program for comparing models, written from document 01, as document 02's
+//! point 1 changed it, alone.
 //!
 //! The verdict comes from an iteration over explicit pairs of states (`bisim`).
 //! The node count comes from evaluating the list of functions (`list`).
@@ -15,6 +16,7 @@ pub mod lookup;
 pub mod model;
 pub mod random;
 pub mod reader;
+pub mod requests;
 pub mod steps;
 pub mod stream;
 pub mod tables;

@@ -1,9 +1,21 @@
-//! The look-up over any three slices, written from document 01's table of calls.
+//! The look-up over any three slices, written from document 01's table of calls and document 02's point 1.
 
-const MAX_TABLE: usize = 1_048_576;
+use crate::answer::MAX_TABLE;
+use crate::model::MAX_BITS;
+
 const MAX_ACTION: u64 = 63;
-const CODES: u64 = 1 << 20;
-const LAST_LEVEL: u8 = 125;
+const CODES: u64 = codes(MAX_BITS);
+const LAST_LEVEL: u8 = last_level(MAX_BITS);
+
+/// The number of codes of so many bits.
+pub const fn codes(bits: u32) -> u64 {
+    1 << bits
+}
+
+/// The highest level where codes have so many bits: 6 levels of the action come first, then 6 for each bit.
+pub const fn last_level(bits: u32) -> u8 {
+    (5 + 6 * bits) as u8
+}
 
 /// The three slices of a table, of any lengths and content.
 #[derive(Clone, Debug, Default)]
@@ -74,17 +86,24 @@ mod tests {
     }
 
     #[test]
+    fn ends_are_those_of_24_bits() {
+        assert_eq!((CODES, LAST_LEVEL), (16_777_216, 149));
+    }
+
+    #[test]
     fn values_follow_the_bits() {
         assert_eq!(look_up(&one_node(0, 0, 1), &Ask { action: 1, ..AT_0 }), 1);
         assert_eq!(look_up(&one_node(0, 0, 1), &Ask { action: 2, ..AT_0 }), 0);
         for (variable, code) in [(0, 0), (1, 1), (3, 2), (4, 3)] {
             let mut ask = AT_0;
-            ask.codes[code] = 1 << 19;
-            assert_eq!(look_up(&one_node(6 + 6 * 19 + variable, 0, 1), &ask), 1);
+            ask.codes[code] = CODES / 2;
+            assert_eq!(look_up(&one_node(LAST_LEVEL - 5 + variable, 0, 1), &ask), 1);
+            ask.codes[code] -= 1;
+            assert_eq!(look_up(&one_node(LAST_LEVEL - 5 + variable, 0, 1), &ask), 0);
         }
         let full = Ask { root: 2, action: 63, codes: [CODES - 1; 4] };
         assert_eq!(look_up(&one_node(8, 0, 1), &full), 0);
-        assert_eq!(look_up(&one_node(125, 0, 1), &full), 0);
+        assert_eq!(look_up(&one_node(LAST_LEVEL, 0, 1), &full), 0);
     }
 
     #[test]
@@ -94,8 +113,8 @@ mod tests {
         assert_eq!(look_up(&table, &Ask { action: 64, root: 0, ..AT_0 }), 10);
         assert_eq!(look_up(&table, &Ask { codes: [0, 0, 0, CODES], root: 1, ..AT_0 }), 10);
         assert_eq!(look_up(&table, &Ask { root: 3, ..AT_0 }), 10);
-        assert_eq!(look_up(&one_node(126, 0, 1), &AT_0), 10);
-        assert_eq!(look_up(&one_node(126, 0, 1), &Ask { root: 1, ..AT_0 }), 1);
+        assert_eq!(look_up(&one_node(LAST_LEVEL + 1, 0, 1), &AT_0), 10);
+        assert_eq!(look_up(&one_node(LAST_LEVEL + 1, 0, 1), &Ask { root: 1, ..AT_0 }), 1);
         let short = Slices { high: vec![0, 1], ..one_node(0, 0, 1) };
         assert_eq!(look_up(&short, &Ask { action: 64, ..AT_0 }), 7);
         assert_eq!(look_up(&Slices::default(), &AT_0), 7);

@@ -9,7 +9,8 @@ use oracle::bisim::Mode;
 use oracle::model::Model;
 use oracle::random::Random;
 use oracle::stream::{Cases, Stream};
-use oracle::{compare, generate, largest, reader, steps, vectors};
+use oracle::vectors::Rerun;
+use oracle::{compare, generate, largest, reader, requests, steps, vectors};
 
 const USAGE: &str = "usage:
   oracle compare LEFT RIGHT MODE LIMIT L
@@ -18,9 +19,10 @@ const USAGE: &str = "usage:
   oracle pairs LEFT RIGHT MODE
   oracle read MODEL
   oracle vectors FILE
+  oracle requests FILE
   oracle generate SEED COUNT
   oracle stream texts|comparisons|shown|tables SEED FIRST COUNT
-  oracle stream vectors FILE SEED
+  oracle stream vectors|requests FILE SEED
 
 stream writes cases with their expected answers as records for tests/c/runner.c.";
 
@@ -57,46 +59,59 @@ fn run(words: &[&str]) -> Done {
             println!("{}", outcome.ok_or(TOO_LARGE)?);
             Ok(true)
         }
-        ["steps", path] => {
-            for step in steps(&model(path)?).ok_or(TOO_LARGE)? {
-                println!("{} {} {}", step.from, step.action, step.to);
-            }
-            Ok(true)
-        }
-        ["pairs", left, right, mode] => {
-            let pairs = largest(&model(left)?, &model(right)?, mode_number(mode)?);
-            for (x, y) in pairs.ok_or(TOO_LARGE)? {
-                println!("{x} {y}");
-            }
-            Ok(true)
-        }
+        ["steps", path] => print_steps(path),
+        ["pairs", left, right, mode] => print_pairs(left, right, mode),
         ["read", path] => read(path),
-        ["vectors", path] => check_vectors(path),
-        ["generate", seed, count] => {
-            let mut random = Random::new(number(seed)?);
-            for index in 0..number(count)? {
-                let case = generate::case(&mut random);
-                let name = format!("gen {seed} {index}");
-                println!("{}", case.line(&name, case.run().answer));
-            }
-            Ok(true)
-        }
-        ["stream", "vectors", path, seed] => {
-            let file = ascii(path)?;
-            written(stream().vectors(&file, number(seed)?))
-        }
-        ["stream", part, seed, first, count] => {
+        ["vectors", path] => check(path, vectors::rerun),
+        ["requests", path] => check(path, requests::rerun),
+        ["generate", seed, count] => print_generated(seed, count),
+        ["stream", ref rest @ ..] => run_stream(rest),
+        _ => Err(USAGE.to_string()),
+    }
+}
+
+fn run_stream(words: &[&str]) -> Done {
+    written(match *words {
+        ["vectors", path, seed] => stream().vectors(&ascii(path)?, number(seed)?),
+        ["requests", path, seed] => stream().requests(&ascii(path)?, number(seed)?),
+        [part, seed, first, count] => {
             let cases = Cases { seed: number(seed)?, first: number(first)?, count: number(count)? };
-            written(match part {
+            match part {
                 "texts" => stream().texts(cases),
                 "comparisons" => stream().comparisons(cases),
                 "shown" => stream().shown(cases),
                 "tables" => stream().tables(cases),
                 _ => return Err(USAGE.to_string()),
-            })
+            }
         }
-        _ => Err(USAGE.to_string()),
+        _ => return Err(USAGE.to_string()),
+    })
+}
+
+fn print_steps(path: &str) -> Done {
+    for step in steps(&model(path)?).ok_or(TOO_LARGE)? {
+        println!("{} {} {}", step.from, step.action, step.to);
     }
+    Ok(true)
+}
+
+fn print_pairs(left: &str, right: &str, mode: &str) -> Done {
+    let pairs = largest(&model(left)?, &model(right)?, mode_number(mode)?);
+    for (x, y) in pairs.ok_or(TOO_LARGE)? {
+        println!("{x} {y}");
+    }
+    Ok(true)
+}
+
+/// Prints generated comparisons as lines of vectors.
+fn print_generated(seed: &str, count: &str) -> Done {
+    let mut random = Random::new(number(seed)?);
+    for index in 0..number(count)? {
+        let case = generate::case(&mut random);
+        let name = format!("gen {seed} {index}");
+        println!("{}", case.line(&name, case.run().answer));
+    }
+    Ok(true)
 }
 
 fn stream() -> Stream<impl Write> {
@@ -112,7 +127,7 @@ fn bytes(path: &str) -> Result<Vec<u8>, String> {
 }
 
 fn ascii(path: &str) -> Result<String, String> {
-    String::from_utf8(bytes(path)?).map_err(|_| "vectors are ASCII".to_string())
+    String::from_utf8(bytes(path)?).map_err(|_| "stored lines are ASCII".to_string())
 }
 
 fn number<N: std::str::FromStr>(word: &str) -> Result<N, String> {
@@ -141,19 +156,18 @@ fn read(path: &str) -> Done {
     Ok(true)
 }
 
-/// Prints every line whose answer differs, then the totals.
-fn check_vectors(path: &str) -> Done {
+/// Works out the answer of every line anew. Prints every line whose answer differs, then the totals.
+fn check(path: &str, rerun: impl Fn(&str) -> Option<Rerun>) -> Done {
     let file = ascii(path)?;
     let (mut agree, mut differ, mut explicit) = (0, 0, 0);
     for line in file.lines().filter(|line| vectors::is_vector(line)) {
-        let vector = vectors::parse(line).ok_or_else(|| format!("malformed vector: {line}"))?;
-        let checked = vector.case.run();
-        explicit += u64::from(checked.explicit);
-        if checked.answer.to_string() == vector.expected {
+        let line = rerun(line).ok_or_else(|| format!("malformed line: {line}"))?;
+        explicit += u64::from(line.explicit);
+        if line.got == line.expected {
             agree += 1;
         } else {
             differ += 1;
-            println!("{}: expected {}, got {}", vector.name, vector.expected, checked.answer);
+            println!("{}: expected {}, got {}", line.name, line.expected, line.got);
         }
     }
     println!("{explicit} verdicts and refusals 9 also by explicit pairs");

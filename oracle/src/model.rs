@@ -2,6 +2,7 @@
 
 pub const TAU: u8 = 0;
 pub const MAX_LINES: usize = 64;
+/// The most bits of a line's process; codes and levels of a look-up end with it.
 pub const MAX_BITS: u32 = 24;
 pub const MAX_USES: u32 = 64;
 
@@ -76,7 +77,7 @@ impl Line {
         self.leaves.len() as u32
     }
 
-    /// Number of combinations of leaf states; at most 2^20 in an accepted model.
+    /// Number of combinations of leaf states; at most 2^`MAX_BITS` in an accepted model.
     pub fn states(&self) -> u64 {
         self.leaves.iter().map(|&n| u64::from(n)).product()
     }

@@ -6,7 +6,6 @@ use std::io::{self, Write};
 use crate::answer::{largest, mode_of, told, Answer, Known, MAX_TABLE};
 use crate::calls::{any_pair, calls, fitting, small_pair, work, Call, Pair};
 use crate::codes::holds;
-use crate::list;
 use crate::lookup::{look_up, Ask};
 use crate::model::Model;
 use crate::random::Random;
@@ -14,7 +13,8 @@ use crate::reader::read;
 use crate::steps::{derive, Step};
 use crate::tables::{any_ask, any_table, Table};
 use crate::texts::any_text;
-use crate::vectors::{is_vector, parse};
+use crate::vectors::{self, is_vector, Case};
+use crate::{list, requests};
 
 const TEXT: u64 = 1;
 const PAIR: u64 = 2;
@@ -99,19 +99,39 @@ impl<W: Write> Stream<W> {
 
     /// The lines of a file of vectors with the answers that stand there, counted from 1.
     pub fn vectors(&mut self, file: &str, seed: u64) -> io::Result<()> {
-        for (number, line) in (1..).zip(file.lines()).filter(|(_, line)| is_vector(line)) {
-            let malformed = || io::Error::other(format!("line {number} is no vector"));
-            let vector = parse(line).ok_or_else(malformed)?;
-            let answer: Answer = vector.expected.parse().map_err(|()| malformed())?;
-            let mut random = Random::of_case(seed, number);
-            // A length far out of range is as good as one just out of it, and can be lent.
-            let length = vector.case.length.min(MAX_TABLE + 1);
-            let work = work(&mut random, entries(answer, length));
-            let (mode, limit) = (vector.case.mode, vector.case.limit);
-            self.pair(number, &vector.case.left, &vector.case.right)?;
-            self.call(&mut random, &Call { mode, limit, table: [length; 3], work, words: 7 }, Some(answer))?;
+        for (number, line) in stored(file) {
+            let vector = vectors::parse(line).ok_or_else(|| malformed(number))?;
+            self.case(number, seed, &vector.case, &vector.expected)?;
         }
         self.end()
+    }
+
+    /// The lines of a file of requests in the same way.
+    pub fn requests(&mut self, file: &str, seed: u64) -> io::Result<()> {
+        for (number, line) in stored(file) {
+            let request = requests::parse(line).ok_or_else(|| malformed(number))?;
+            match &request.call {
+                requests::Call::Compare(case) => self.case(number, seed, case, &request.expected)?,
+                requests::Call::LookUp(table, ask) => {
+                    let value = requests::looked_up(&request.expected).ok_or_else(|| malformed(number))?;
+                    self.table(number, table)?;
+                    self.ask(ask, value)?;
+                }
+            }
+        }
+        self.end()
+    }
+
+    /// A stored comparison.
+    fn case(&mut self, number: u64, seed: u64, case: &Case, expected: &str) -> io::Result<()> {
+        let answer: Answer = expected.parse().map_err(|()| malformed(number))?;
+        let mut random = Random::of_case(seed, number);
+        // A length far out of range is as good as one just out of it, and can be lent.
+        let length = case.length.min(MAX_TABLE + 1);
+        let work = work(&mut random, entries(answer, length));
+        self.pair(number, &case.left, &case.right)?;
+        let call = Call { mode: case.mode, limit: case.limit, table: [length; 3], work, words: 7 };
+        self.call(&mut random, &call, Some(answer))
     }
 
     // Records.
@@ -190,6 +210,15 @@ impl<W: Write> Stream<W> {
         self.numbers(&ask.codes)?;
         self.number(expected)
     }
+}
+
+/// The lines of a file that are no comments, counted from 1.
+fn stored(file: &str) -> impl Iterator<Item = (u64, &str)> {
+    (1..).zip(file.lines()).filter(|(_, line)| is_vector(line))
+}
+
+fn malformed(number: u64) -> io::Error {
+    io::Error::other(format!("line {number} is malformed"))
 }
 
 /// At most so many entries of a table of this length are used, and at least one is.

@@ -1,6 +1,9 @@
 //! Generated tables for look-ups, whole and broken, and what is asked of them.
 
-use crate::lookup::{Ask, Slices};
+use crate::answer::MAX_TABLE;
+use crate::generate::FORMER_BITS;
+use crate::lookup::{codes, last_level, Ask, Slices};
+use crate::model::MAX_BITS;
 use crate::random::Random;
 
 /// An entry, or what stands in every entry that is not named.
@@ -19,8 +22,13 @@ pub struct Table {
     pub entries: Vec<(usize, Entry)>,
 }
 
-const LONGEST: usize = 1 << 20;
-const CODES: u64 = 1 << 20;
+const CODES: u64 = codes(MAX_BITS);
+const FORMER_CODES: u64 = codes(FORMER_BITS);
+const LAST_LEVEL: u8 = last_level(MAX_BITS);
+const FORMER_LAST_LEVEL: u8 = last_level(FORMER_BITS);
+const EDGE_LEVELS: [u8; 8] =
+    [FORMER_LAST_LEVEL, FORMER_LAST_LEVEL + 1, 127, 128, LAST_LEVEL, LAST_LEVEL + 1, 254, 255];
+const LEVELS: usize = LAST_LEVEL as usize + 1;
 
 impl Table {
     pub fn slices(&self) -> Slices {
@@ -44,12 +52,12 @@ fn put<T>(slice: &mut [T], index: usize, value: T) {
 
 /// A table of any sort; one in 32 is of the greatest length or longer by an entry.
 pub fn any_table(random: &mut Random) -> Table {
-    let most = random.pick(&[4, 20, 130]);
+    let most = random.pick(&[4, 20, LEVELS + 4]);
     let nodes = 1 + random.below(most);
     let spare = random.below(10);
     let length = match random.below(64) {
-        0 => LONGEST,
-        1 => LONGEST + 1,
+        0 => MAX_TABLE,
+        1 => MAX_TABLE + 1,
         _ => 2 + nodes + spare,
     };
     let first = if random.once_in(2) { 2 } else { length - nodes };
@@ -65,7 +73,7 @@ pub fn any_table(random: &mut Random) -> Table {
 
 /// So many nodes from an entry on, whose levels do not fall; children are constants or nodes of higher levels.
 fn ladder(random: &mut Random, length: usize, first: usize, nodes: usize) -> Table {
-    let mut levels: Vec<u8> = (0..nodes).map(|_| random.below(126) as u8).collect();
+    let mut levels: Vec<u8> = (0..nodes).map(|_| random.below(LEVELS) as u8).collect();
     levels.sort_unstable();
     let child = |random: &mut Random, level: u8| -> u32 {
         let above = levels.partition_point(|&other| other <= level);
@@ -103,7 +111,7 @@ fn damage(random: &mut Random, table: &mut Table) {
     let entry = &mut table.entries[place].1;
     let child = random.pick(&[length, length + 1, length - 1, u32::MAX, 1 << 31, own, own, other.0 as u32]);
     match random.below(4) {
-        0 => entry.level = random.pick(&[125, 126, 127, 128, 254, 255]),
+        0 => entry.level = random.pick(&EDGE_LEVELS),
         1 => entry.level = random.pick(&[0, other.1.level, other.1.level]),
         2 => entry.low = child,
         _ => entry.high = child,
@@ -112,7 +120,7 @@ fn damage(random: &mut Random, table: &mut Table) {
 
 fn resize(random: &mut Random, lengths: &mut [usize; 3]) {
     let length = lengths[0];
-    let other = random.pick(&[0, 1, 2, length - 1, length + 1, LONGEST, LONGEST + 1]);
+    let other = random.pick(&[0, 1, 2, length - 1, length + 1, MAX_TABLE, MAX_TABLE + 1]);
     if random.once_in(2) {
         *lengths = [other; 3];
     } else {
@@ -132,12 +140,22 @@ pub fn any_ask(random: &mut Random, table: &Table) -> Ask {
     };
     match random.below(12) {
         0 => ask.root = random.pick(&[0, 1, 2, length.wrapping_sub(1), length, length + 1]),
-        1 => ask.root = random.pick(&[1 << 20, (1 << 32) + first, 1 << 32, (1 << 32) + 1, u64::MAX]),
-        2 => ask.action = random.pick(&[0, 62, 63, 64, 65, 127, 256, 1 << 32, u64::MAX]),
-        3 => ask.codes[random.below(4)] = random.pick(&[0, CODES - 1, CODES, CODES + 1, 1 << 32, u64::MAX]),
+        1 => ask.root = random.pick(&[MAX_TABLE as u64, (1 << 32) + first, 1 << 32, (1 << 32) + 1, u64::MAX]),
+        2 | 3 => edge_number(random, &mut ask),
         _ => {}
     }
     ask
+}
+
+/// An action or a code at an edge; at times from a constant, where both are judged all the same.
+fn edge_number(random: &mut Random, ask: &mut Ask) {
+    let codes = [0, FORMER_CODES, CODES - 1, CODES - 1, CODES, CODES, CODES + 1, 1 << 32, u64::MAX];
+    ask.root = random.pick(&[ask.root, ask.root, 0, 1]);
+    if random.once_in(2) {
+        ask.action = random.pick(&[0, 62, 63, 64, 65, 127, 256, 1 << 32, u64::MAX]);
+    } else {
+        ask.codes[random.below(4)] = random.pick(&codes);
+    }
 }
 
 #[cfg(test)]

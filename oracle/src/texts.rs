@@ -1,16 +1,18 @@
 //! Texts of every sort for the reader: accepted ones, malformed ones, and mutations of both.
 
-use crate::generate::{malformed, model, text, Frame};
+use crate::generate::{malformed, model, text, wide, Frame, WIDE};
+use crate::model::MAX_BITS;
 use crate::random::Random;
 
 /// A frame of the greatest length, 255 bytes: a leaf with 84 triples.
 const TRIPLES: usize = 84;
 
-/// An accepted or malformed text with up to three mutations.
+/// An accepted or malformed text, or one about the limit of bits, with up to three mutations.
 pub fn any_text(random: &mut Random) -> Vec<u8> {
     let mut bytes = match random.below(400) {
         0 => longest(random),
         1..=99 => malformed(random),
+        100..=119 => at_the_ends(random),
         _ => accepted(random),
     };
     for _ in 0..random.pick(&[0, 1, 1, 1, 2, 3]) {
@@ -20,8 +22,14 @@ pub fn any_text(random: &mut Random) -> Vec<u8> {
 }
 
 fn accepted(random: &mut Random) -> Vec<u8> {
-    let budget = random.pick(&[3, 6, 12, 20]);
+    let budget = random.pick(&[3, 6, 12, MAX_BITS]);
     text(&model(random, budget))
+}
+
+/// A line with as many bits as are allowed, or were before document 02's point 1, or a bit more.
+fn at_the_ends(random: &mut Random) -> Vec<u8> {
+    let bits = random.pick(&WIDE);
+    text(&wide(random, bits))
 }
 
 /// 64 lines of 255 bytes, which are 32,704 bytes of text; at times a little more or less.

@@ -20,12 +20,27 @@ impl Case {
         compare_checked(&self.left, &self.right, self.mode, self.limit, lens)
     }
 
+    /// This line's answer worked out anew.
+    pub fn rerun(&self, name: String, expected: String) -> Rerun {
+        let Checked { answer, explicit } = self.run();
+        Rerun { name, expected, got: answer.to_string(), explicit }
+    }
+
     /// The vectors line with this answer.
     pub fn line(&self, name: &str, answer: Answer) -> String {
         let (left, right) = (escape(&self.left), escape(&self.right));
         let Case { mode, limit, length, .. } = self;
         format!("{name}\t{left}\t{right}\t{mode}\t{limit}\t{length}\t{answer}")
     }
+}
+
+/// The answer that a stored line expects and the one that was worked out now; whether explicit states gave that too.
+#[derive(Clone, Debug)]
+pub struct Rerun {
+    pub name: String,
+    pub expected: String,
+    pub got: String,
+    pub explicit: bool,
 }
 
 /// One line of a file of vectors.
@@ -52,7 +67,13 @@ pub fn parse(line: &str) -> Option<Vector> {
     Some(Vector { name: name.to_string(), case, expected: expected.to_string() })
 }
 
-/// Whether a line of a file holds a vector: neither empty nor a comment.
+/// A line's answer worked out anew; none if the line is malformed.
+pub fn rerun(line: &str) -> Option<Rerun> {
+    let Vector { name, case, expected } = parse(line)?;
+    Some(case.rerun(name, expected))
+}
+
+/// Whether a line of a file holds a vector or a call: neither empty nor a comment.
 pub fn is_vector(line: &str) -> bool {
     !line.is_empty() && !line.starts_with('#')
 }

@@ -2,13 +2,16 @@
 
 use std::collections::BTreeSet;
 
-use oracle::answer::{Answer, Known};
+use oracle::answer::{Answer, Known, MAX_TABLE};
+use oracle::bisim::Outcome;
 use oracle::calls::{any_pair, calls, Call, Pair};
-use oracle::lookup::{look_up, Ask};
-use oracle::model::{Channels, Line, Model, Process, TAU};
+use oracle::generate::{FORMER_BITS, WIDE};
+use oracle::lookup::{codes, last_level, look_up, Ask};
+use oracle::model::{Channels, Line, Model, Process, MAX_BITS, TAU};
 use oracle::random::Random;
-use oracle::reader::read;
+use oracle::reader::{read, Refusal};
 use oracle::tables::{any_ask, any_table, Table};
+use oracle::texts::any_text;
 
 const SEED: u64 = 1;
 const CASES: u64 = 5000;
@@ -141,16 +144,68 @@ fn every_length_comes_up() {
         }
     }
     assert_eq!(work.len(), 3 * 4);
-    assert!([0, 1, 2, 1 << 20, (1 << 20) + 1].iter().all(|length| table.contains(length)));
+    assert!([0, 1, 2, MAX_TABLE, MAX_TABLE + 1].iter().all(|length| table.contains(length)));
     assert!([0, 1, 2, u64::MAX].iter().all(|limit| limits.contains(limit)));
     // The other limits are products of numbers of states.
     assert!(limits.len() > 20);
 }
 
+/// The most bits of a line, and whether the last line is it or uses it; of a text that is refused by its bits, those of the
+/// line that is refused. None of another refused text.
+fn widest(text: &[u8]) -> Option<(u32, bool)> {
+    let lines: Vec<&[u8]> = text.split_inclusive(|&byte| byte == b'\n').collect();
+    match read(text) {
+        Ok(model) => model.lines.iter().map(Line::bits).zip(model.used()).max(),
+        Err(Refusal { number: 6, line }) => {
+            let before = read(&lines[..line].concat()).ok()?;
+            Some((joined_bits(lines[line], &before), line + 1 == lines.len()))
+        }
+        Err(_) => None,
+    }
+}
+
+/// The bits of a line that joins two lines of the model.
+fn joined_bits(line: &[u8], model: &Model) -> u32 {
+    let digits = std::str::from_utf8(line).expect("refused by its bits");
+    let operand = |place| usize::from_str_radix(&digits[place..place + 2], 16).expect("digits");
+    model.lines[operand(4)].bits() + model.lines[operand(6)].bits()
+}
+
+#[test]
+fn texts_of_every_width_about_the_limit_come_up() {
+    let texts = (0..CASES).map(|case| any_text(&mut Random::of_case(SEED, case)));
+    let seen: BTreeSet<_> = texts.filter_map(|text| widest(&text)).collect();
+    let wanted = WIDE.into_iter().flat_map(|bits| [(bits, false), (bits, true)]).collect();
+    assert!(seen.is_superset(&wanted), "{seen:?}");
+}
+
+/// The most bits that a model of the pair uses, with its side and the answer.
+fn width_sorts(pair: &Pair) -> Vec<(u32, u8, &'static str)> {
+    let (sides, sort) = match &pair.known {
+        Known::Refused(Answer::Refused { number: 6, side, .. }) => (vec![*side], "refused"),
+        Known::Refused(_) => return vec![],
+        Known::Traced(trace) if trace.end.is_err() => (vec![0, 1], "full"),
+        Known::Traced(trace) if matches!(trace.end, Ok(Outcome::Equal(_))) => (vec![0, 1], "equal"),
+        Known::Traced(_) => (vec![0, 1], "different"),
+    };
+    let used = |side: u8| widest(if side == 0 { &pair.left } else { &pair.right }).filter(|width| width.1);
+    sides.into_iter().filter_map(|side| Some((used(side)?.0, side, sort))).collect()
+}
+
+#[test]
+fn comparisons_of_every_width_about_the_limit_come_up() {
+    let pairs = (0..2 * CASES).map(|case| any_pair(&mut Random::of_case(SEED, case)));
+    let seen: BTreeSet<_> = pairs.flat_map(|pair| width_sorts(&pair)).collect();
+    let accepted = |bits| ["equal", "different", "full"].map(|sort| (bits, sort));
+    let sorts = [FORMER_BITS, FORMER_BITS + 1, MAX_BITS].into_iter().flat_map(accepted);
+    let sorts = sorts.chain([(MAX_BITS + 1, "refused")]);
+    let wanted = sorts.flat_map(|(bits, sort)| [(bits, 0, sort), (bits, 1, sort)]).collect();
+    assert!(seen.is_superset(&wanted), "{seen:?}");
+}
+
 /// The edges of a look-up's arguments, each with whether it is due here.
 fn edges(table: &Table, ask: &Ask) -> Vec<(&'static str, bool)> {
     let length = table.lengths[0] as u64;
-    let has_level = |level: u8| table.entries.iter().any(|(_, entry)| entry.level == level);
     let child =
         |to: u64| table.entries.iter().any(|(_, e)| u64::from(e.low) == to || u64::from(e.high) == to);
     let loops = table.entries.iter().any(|(at, e)| *at > 1 && (e.low == *at as u32 || e.high == *at as u32));
@@ -159,8 +214,8 @@ fn edges(table: &Table, ask: &Ask) -> Vec<(&'static str, bool)> {
         ("lengths 0", lengths(0)),
         ("lengths 1", lengths(1)),
         ("lengths 2", lengths(2)),
-        ("longest", lengths(1 << 20)),
-        ("too long", lengths((1 << 20) + 1)),
+        ("longest", lengths(MAX_TABLE)),
+        ("too long", lengths(MAX_TABLE + 1)),
         ("level unequal", table.lengths[0] != table.lengths[1] && table.lengths[1] == table.lengths[2]),
         ("low unequal", table.lengths[0] != table.lengths[1] && table.lengths[0] == table.lengths[2]),
         ("high unequal", table.lengths[0] != table.lengths[2] && table.lengths[0] == table.lengths[1]),
@@ -168,13 +223,9 @@ fn edges(table: &Table, ask: &Ask) -> Vec<(&'static str, bool)> {
         ("root above 32 bits", ask.root >= 1 << 32),
         ("action 63", ask.action == 63),
         ("action 64", ask.action == 64),
+        ("action 64 from 0", ask.action == 64 && ask.root == 0),
+        ("action 64 from 1", ask.action == 64 && ask.root == 1),
         ("action 2^64 - 1", ask.action == u64::MAX),
-        ("last code", ask.codes.contains(&((1 << 20) - 1))),
-        ("first code out of range", ask.codes.contains(&(1 << 20))),
-        ("level 125", has_level(125)),
-        ("level 126", has_level(126)),
-        ("level 254", has_level(254)),
-        ("level 255", has_level(255)),
         ("child beyond", child(length)),
         ("child far beyond", child(u32::MAX.into())),
         ("cycle", loops),
@@ -193,7 +244,7 @@ fn every_edge_of_a_look_up_comes_up() {
             let edges = edges(&table, &ask);
             all.extend(edges.iter().map(|edge| edge.0));
             due.extend(edges.iter().filter(|edge| edge.1).map(|edge| edge.0));
-            if table.lengths == [1 << 20; 3] && ask.root > 1 << 19 {
+            if table.lengths == [MAX_TABLE; 3] && ask.root as usize > MAX_TABLE / 2 {
                 far.insert(look_up(&slices, &ask));
             }
         }
@@ -201,4 +252,52 @@ fn every_edge_of_a_look_up_comes_up() {
     assert_eq!(due, all);
     // Walks that start in the second half of the longest table have every answer.
     assert_eq!(far, [0, 1, 10].into());
+}
+
+/// Asks of the tables of a short run that refusal 7 is not due of.
+fn asks() -> impl Iterator<Item = (Table, Ask, u64)> {
+    (0..3000).flat_map(|case| {
+        let mut random = Random::of_case(SEED, case);
+        let table = any_table(&mut random);
+        let slices = table.slices();
+        let ask = |_| {
+            let ask = any_ask(&mut random, &table);
+            (table.clone(), ask, look_up(&slices, &ask))
+        };
+        (0..16).map(ask).filter(|&(_, _, answer)| answer != 7).collect::<Vec<_>>()
+    })
+}
+
+#[test]
+fn every_code_at_an_end_comes_up_in_each_place_with_each_root() {
+    let ends = [codes(FORMER_BITS), codes(MAX_BITS) - 1, codes(MAX_BITS)];
+    let mut seen = BTreeSet::new();
+    for (_, ask, answer) in asks() {
+        let at_end = |&(_, code): &(usize, u64)| ends.contains(&code);
+        seen.extend(
+            ask.codes
+                .into_iter()
+                .enumerate()
+                .filter(at_end)
+                .map(|(place, code)| (place, code, ask.root.min(2), answer)),
+        );
+    }
+    // With root 0 and 1, and from a node on walks to 0, 1 and 10; with the first code out of range 10 alone.
+    assert_eq!(seen.len(), 4 * (2 * (2 + 3) + 3), "{seen:?}");
+}
+
+#[test]
+fn a_root_at_every_level_at_an_end_comes_up() {
+    let (former, last) = (last_level(FORMER_BITS), last_level(MAX_BITS));
+    let mut seen = BTreeSet::new();
+    for (table, ask, answer) in
+        asks().filter(|(_, ask, _)| ask.action < 64 && ask.codes.iter().all(|&code| code < codes(MAX_BITS)))
+    {
+        let root = table.entries.iter().find(|(index, _)| *index as u64 == ask.root && ask.root > 1);
+        seen.extend(root.map(|(_, entry)| (entry.level, answer)));
+    }
+    let answers =
+        |level: u8| seen.iter().filter(|seen| seen.0 == level).map(|seen| seen.1).collect::<Vec<_>>();
+    assert!([former, former + 1, last].iter().all(|&level| answers(level) == [0, 1, 10]), "{seen:?}");
+    assert!([last + 1, 254, 255].iter().all(|&level| answers(level) == [10]), "{seen:?}");
 }

@@ -120,8 +120,24 @@ fn each_refusal_of_a_text() {
     assert_eq!(refused(b"00010200\n"), Err((4, 0)));
     assert_eq!(refused(b"000102000101\n"), Err((5, 0)));
     assert_eq!(refused(b"000100\n"), Err((5, 0)));
-    assert_eq!(refused(b"000140\n01020000\n02020101\n"), Err((6, 2)));
+    assert_eq!(refused(b"000140\n01020000\n02020101\n030102\n04020203\n"), Err((6, 4)));
     assert_eq!(refused(b"000101\n"), Ok(()));
+}
+
+#[test]
+fn a_line_has_at_most_24_bits_and_64_uses() {
+    // 24 bits in line 2; 25 bits above it, also where a small last line follows; then 64 and 65 uses.
+    let widest = "000140/01020000/02020101";
+    let refused =
+        |row: &str| read(&text(row)).map(|model| model.last().bits()).map_err(|r| (r.number, r.line));
+    assert_eq!(refused(widest), Ok(24));
+    assert_eq!(refused(&format!("{widest}/030102")), Ok(1));
+    assert_eq!(refused(&format!("{widest}/030101/04020203")), Ok(24));
+    assert_eq!(refused(&format!("{widest}/030102/04020203")), Err((6, 4)));
+    assert_eq!(refused(&format!("{widest}/030102/04060302/050101")), Err((6, 4)));
+    let doubled = "000101/01020000/02020101/03020202/04020303/05020404/06020505";
+    assert_eq!(refused(doubled), Ok(0));
+    assert_eq!(refused(&format!("{doubled}/07020600")), Err((6, 7)));
 }
 
 #[test]

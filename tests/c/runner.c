@@ -1,6 +1,7 @@
 /* Runs the cases of `oracle stream` through the library: `oracle stream ... | runner LABEL`. All that is lent is filled with other bytes before a call, and
    checked after it. Prints each case that differs with the label and the case's number, then "LABEL: N agree, M differ"; fails if M is not 0. */
 #include "../../include/seipolku.h"
+#include "limits.h"
 #include "records.h"
 #include "shape.h"
 #include <inttypes.h>
@@ -9,7 +10,7 @@
 #include <string.h>
 #include <unistd.h>
 
-enum { LENT = 7, MOST_REPORTS = 20, ACTIONS = 64, CODES = 1 << 20 };
+enum { LENT = 7, MOST_REPORTS = 20, ACTIONS = 64 };
 
 /* A comparison but for its texts. Expected are the returned kind, and rounds and nodes or a refusal's number, side and line. */
 typedef struct { uint64_t mode, limit, table[3], work[3], words, seed, kind, expected[3]; } Call;
@@ -23,9 +24,18 @@ static const char *label;
 /* A slice of length 0 has any pointer, also none. */
 static void *pointer(const Slice *slice, uint64_t seed) { return slice->size || seed % 2 ? slice->at : NULL; }
 
+static int table_locked;
+static void lock_table(void) { lock(&level), lock(&low), lock(&high), table_locked = 1; }
+
+/* Due before the table is lent anew. */
+static void unlock_table(void) {
+    if (table_locked) unlock(&level), unlock(&low), unlock(&high), table_locked = 0;
+}
+
 static uint64_t compare(const Call *c) {
     const uint64_t lengths[LENT] = {c->table[0], c->table[1], c->table[2], c->work[0], c->work[1], c->work[2], c->words};
     void *p[LENT];
+    unlock_table();
     for (int k = 0; k < LENT; k++) {
         lend_filled(lent[k], lengths[k] * width[k], c->seed + (uint64_t)k);
         p[k] = pointer(lent[k], c->seed);
@@ -150,9 +160,6 @@ static int call(void) {
     return count(call_agrees(&c));
 }
 
-static void lock_table(void) { lock(&level), lock(&low), lock(&high); }
-static void unlock_table(void) { unlock(&level), unlock(&low), unlock(&high); }
-
 /* One look-up; codes are left now, left next, right now, right next. */
 static void look_up(uint64_t root, uint64_t action, const uint64_t *code, uint64_t expected) {
     uint64_t got = seipolku_look_up(level.at, level.size, (uint32_t *)(void *)low.at, low.size / 4, (uint32_t *)(void *)high.at, high.size / 4, root, action,
@@ -165,7 +172,7 @@ static void look_up(uint64_t root, uint64_t action, const uint64_t *code, uint64
 /* Any code, for a place on which a value does not depend. */
 static uint64_t any_code(uint64_t *seed) {
     *seed = *seed * 6364136223846793005u + 1442695040888963407u;
-    return *seed >> 44;
+    return *seed >> (64 - MAX_BITS);
 }
 
 /* Every step of a relation, the values by now code, action and next code; `place` is that of the now code. */
@@ -213,11 +220,10 @@ static void put(Slice *slice, uint64_t index, uint64_t value) {
     if (index < slice->size / 4) memcpy(slice->at + 4 * index, &word, 4);
 }
 
-/* A table with the given entries; it stays locked up to the next one. */
+/* A table with the given entries; it stays locked up to the next one or the next comparison. */
 static void table(void) {
-    static int locked;
     uint64_t h[6], e[4]; /* lengths and what fills the slices; index, level, low, high */
-    if (locked) unlock_table();
+    unlock_table();
     current = number();
     numbers(h, 6);
     lend(&level, h[0]), lend(&low, 4 * h[1]), lend(&high, 4 * h[2]);
@@ -230,7 +236,6 @@ static void table(void) {
         put(&low, e[0], e[2]), put(&high, e[0], e[3]);
     }
     lock_table();
-    locked = 1;
 }
 
 static void ask(void) {

@@ -1,8 +1,7 @@
 #include "shape.h"
+#include "limits.h"
 #include <stdlib.h>
 #include <string.h>
-
-enum { LONGEST = 1 << 20, LAST_LEVEL = 125 };
 
 typedef struct { uint32_t low, high; uint8_t level; } Node;
 
@@ -38,7 +37,7 @@ const char *misshapen(const uint8_t *level, const uint32_t *low, const uint32_t 
     }
     while (waiting > 0) {
         uint32_t at = open[--waiting], a = low[at], b = high[at];
-        if (level[at] > LAST_LEVEL) return "a node's level is above 125";
+        if (level[at] > LAST_LEVEL) return "a node's level is above the last";
         if (a >= length || b >= length) return "a child is outside the table";
         if (a == b) return "the table is not reduced";
         if (level[a] <= level[at] || level[b] <= level[at]) return "the table is not ordered";
