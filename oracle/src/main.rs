@@ -4,7 +4,7 @@ use std::io::{self, BufWriter, Write};
 use std::process::ExitCode;
 use std::{env, fs};
 
-use oracle::answer::{decide, mode_of};
+use oracle::answer::{compare_models, decide, mode_of};
 use oracle::bisim::Mode;
 use oracle::model::Model;
 use oracle::random::Random;
@@ -14,6 +14,7 @@ use oracle::{compare, generate, largest, reader, requests, steps, vectors};
 
 const USAGE: &str = "usage:
   oracle compare LEFT RIGHT MODE LIMIT L
+  oracle list LEFT RIGHT MODE LIMIT NODES
   oracle verdict LEFT RIGHT MODE LIMIT
   oracle steps MODEL
   oracle pairs LEFT RIGHT MODE
@@ -24,6 +25,7 @@ const USAGE: &str = "usage:
   oracle stream texts|comparisons|shown|tables SEED FIRST COUNT
   oracle stream vectors|requests FILE SEED
 
+list evaluates the whole list with room for so many nodes, also for more than a table holds.
 stream writes cases with their expected answers as records for tests/c/runner.c.";
 
 const TOO_LARGE: &str = "too large to enumerate";
@@ -51,6 +53,11 @@ fn run(words: &[&str]) -> Done {
             let lens = (length, length, length);
             let answer = compare(&bytes(left)?, &bytes(right)?, number(mode)?, number(limit)?, lens);
             println!("{answer}");
+            Ok(true)
+        }
+        ["list", left, right, mode, limit, room] => {
+            let (mode, limit) = (mode_number(mode)?, number(limit)?);
+            println!("{}", compare_models(&model(left)?, &model(right)?, mode, limit, number(room)?).answer);
             Ok(true)
         }
         ["verdict", left, right, mode, limit] => {
