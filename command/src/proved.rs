@@ -65,15 +65,16 @@ impl<'t> Relation<'t> {
         Ok(Relation { shown: table.get()?.compare(text, IDLE, Mode::Strong, LIMIT)?, bits })
     }
 
-    /// The steps from a state, by action and next code. They are found in the table, and the library confirms each one.
-    pub fn steps(&self, now: u64) -> Result<Vec<(u8, u64)>, Failure> {
+    /// The steps from a state, by action and next code, or so many of them. They are found in the table, and the library confirms each one.
+    pub fn steps(&self, now: u64, most: usize) -> Result<Vec<(u8, u64)>, Failure> {
         let mut steps = Vec::new();
-        for (action, next) in self.shown.left_steps_from(now, self.bits).map_err(unexpected)? {
+        for (action, next) in self.shown.left_steps_from(now, self.bits).map_err(unexpected)?.take(most) {
             if !look_up(self.shown.left, action, [now, next, 0, 0])? {
                 return fail("a step that was found does not hold; please report this with the model.");
             }
             steps.push((action as u8, next));
         }
+        steps.sort_unstable();
         Ok(steps)
     }
 }

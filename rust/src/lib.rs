@@ -25,4 +25,5 @@ pub use frames::LeafUse;
 pub use limits::{CODES, LAST_LEVEL, MAX_BITS};
 pub use model::{model, Model};
 pub use refusal::{Fault, Refusal, Side};
+pub use steps::Steps;
 pub use table::{Mode, Root, Table, TableError, Verdict, MAX_TABLE};

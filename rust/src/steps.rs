@@ -2,55 +2,39 @@
 
 use crate::limits::{ACTION_BITS, SLOTS};
 use crate::table::Table;
-use std::collections::HashSet;
+use std::collections::HashMap;
 
-/// The walk from a relation's root by every action and next code, with the now code fixed and all other codes 0.
-pub(crate) struct Walk<'t> {
+/// The steps from a state, by action and next code, in no order that counts: every walk to 1 from a relation's root, with the now code
+/// fixed and all other codes 0. The time goes with the steps that are taken, not with the codes that could be asked for.
+pub struct Steps<'t> {
     table: &'t Table,
     /// Where the levels of a bit of the now code stand; those of the next code are behind them.
     slot: u32,
     bits: u32,
     now: u64,
-    /// Entries from which no walk ends at 1.
-    dead: HashSet<u32>,
-    /// What was chosen on each walk to 1: the action's bits, then those of the next code.
-    found: Vec<u64>,
+    /// Whether some walk from an entry ends at 1.
+    alive: HashMap<u32, bool>,
+    open: Vec<Open>,
 }
 
-impl<'t> Walk<'t> {
-    pub(crate) fn new(table: &'t Table, slot: u32, bits: u32, now: u64) -> Walk<'t> {
-        Walk { table, slot, bits, now, dead: HashSet::new(), found: Vec::new() }
-    }
+/// A walk that goes on: its entry, how many bits are chosen, and these: the action's, then those of the next code.
+struct Open {
+    entry: u32,
+    rank: u32,
+    chosen: u64,
+}
 
-    /// The steps by action and next code, ascending.
-    pub(crate) fn steps(mut self, root: u32) -> Vec<(u64, u64)> {
-        self.go(root, 0, 0);
-        let action = |chosen: u64| chosen & ((1 << ACTION_BITS) - 1);
-        let mut steps: Vec<(u64, u64)> =
-            self.found.iter().map(|chosen| (action(*chosen), chosen >> ACTION_BITS)).collect();
-        steps.sort_unstable();
+impl<'t> Steps<'t> {
+    pub(crate) fn new(table: &'t Table, root: u32, slot: u32, bits: u32, now: u64) -> Steps<'t> {
+        let mut steps = Steps { table, slot, bits, now, alive: HashMap::new(), open: Vec::new() };
+        steps.push(root, 0, 0);
         steps
     }
 
-    /// Chooses the bit of this rank and those behind it.
-    fn go(&mut self, entry: u32, rank: u32, chosen: u64) {
+    fn push(&mut self, entry: u32, rank: u32, chosen: u64) {
         let entry = self.forward(entry);
-        if entry == 0 || self.dead.contains(&entry) {
-            return;
-        }
-        if rank == ACTION_BITS + self.bits {
-            self.found.push(chosen);
-            return;
-        }
-        let before = self.found.len();
-        let [low, high] = match self.table.node(entry) {
-            Some((level, children)) if self.rank(level) == Some(rank) => children,
-            _ => [entry, entry],
-        };
-        self.go(low, rank + 1, chosen);
-        self.go(high, rank + 1, chosen | 1 << rank);
-        if self.found.len() == before {
-            self.dead.insert(entry);
+        if self.is_alive(entry) {
+            self.open.push(Open { entry, rank, chosen });
         }
     }
 
@@ -63,6 +47,17 @@ impl<'t> Walk<'t> {
             entry = if self.fixed(level) { high } else { low };
         }
         entry
+    }
+
+    fn is_alive(&mut self, entry: u32) -> bool {
+        let entry = self.forward(entry);
+        let Some((_, [low, high])) = self.table.node(entry) else { return entry == 1 };
+        if let Some(known) = self.alive.get(&entry) {
+            return *known;
+        }
+        let found = self.is_alive(low) || self.is_alive(high);
+        self.alive.insert(entry, found);
+        found
     }
 
     /// Which of the bits that are chosen stands at a level.
@@ -80,5 +75,24 @@ impl<'t> Walk<'t> {
     fn fixed(&self, level: u32) -> bool {
         let place = level - ACTION_BITS;
         place % SLOTS == self.slot && self.now >> (place / SLOTS) & 1 == 1
+    }
+}
+
+impl Iterator for Steps<'_> {
+    type Item = (u64, u64);
+
+    fn next(&mut self) -> Option<(u64, u64)> {
+        loop {
+            let Open { entry, rank, chosen } = self.open.pop()?;
+            if rank == ACTION_BITS + self.bits {
+                return Some((chosen & ((1 << ACTION_BITS) - 1), chosen >> ACTION_BITS));
+            }
+            let [low, high] = match self.table.node(entry) {
+                Some((level, children)) if self.rank(level) == Some(rank) => children,
+                _ => [entry, entry],
+            };
+            self.push(high, rank + 1, chosen | 1 << rank);
+            self.push(low, rank + 1, chosen);
+        }
     }
 }

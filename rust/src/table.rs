@@ -6,7 +6,7 @@ use std::fmt;
 use crate::ffi;
 use crate::limits::{CODES, MAX_BITS};
 use crate::refusal::{Fault, Refusal, Side};
-use crate::steps::Walk;
+use crate::steps::Steps;
 
 /// The most entries that a table may have.
 pub const MAX_TABLE: usize = 1 << 20;
@@ -220,7 +220,7 @@ impl fmt::Debug for Root<'_> {
     }
 }
 
-impl Root<'_> {
+impl<'t> Root<'t> {
     /// The value at an action and four state codes: left now and next, right now and next. Refused with 10 where the action is above
     /// 63 or a code is not below [`CODES`].
     pub fn look_up(&self, action: u64, codes: [u64; 4]) -> Result<bool, Refusal> {
@@ -250,10 +250,10 @@ impl Root<'_> {
     }
 
     /// The steps from a state that a relation holds; the slot is the one of the model's now code.
-    fn steps(&self, slot: u32, now: u64, bits: u64) -> Result<Vec<(u64, u64)>, Refusal> {
+    fn steps(&self, slot: u32, now: u64, bits: u64) -> Result<Steps<'t>, Refusal> {
         match (u32::try_from(bits), u32::try_from(self.entry)) {
             (Ok(bits), Ok(root)) if bits <= MAX_BITS && now < CODES => {
-                Ok(Walk::new(self.table, slot, bits, now).steps(root))
+                Ok(Steps::new(self.table, root, slot, bits, now))
             }
             _ => Err(refused(Fault::LookUp.number())),
         }
@@ -282,7 +282,7 @@ pub struct Verdict<'t> {
     pub nodes: u64,
 }
 
-impl Verdict<'_> {
+impl<'t> Verdict<'t> {
     pub fn equal(&self) -> bool {
         self.largest.is_some()
     }
@@ -297,16 +297,14 @@ impl Verdict<'_> {
         self.right.look_up(action, [0, 0, now, next])
     }
 
-    /// All steps of the left model from the state `now`, by action and next code in ascending order. `bits` are those of the model
-    /// ([`Model::bits`](crate::Model)). Refused with 10 where `now` is not below [`CODES`], or `bits` are more than [`MAX_BITS`].
-    ///
-    /// This reads the table itself, so that it takes a time that goes with the steps found and not with the codes asked for.
-    pub fn left_steps_from(&self, now: u64, bits: u64) -> Result<Vec<(u64, u64)>, Refusal> {
+    /// All steps of the left model from the state `now`. `bits` are those of the model ([`Model::bits`](crate::Model)). Refused with 10
+    /// where `now` is not below [`CODES`], or the bits are more than [`MAX_BITS`].
+    pub fn left_steps_from(&self, now: u64, bits: u64) -> Result<Steps<'t>, Refusal> {
         self.left.steps(LEFT_NOW, now, bits)
     }
 
     /// The same of the right model.
-    pub fn right_steps_from(&self, now: u64, bits: u64) -> Result<Vec<(u64, u64)>, Refusal> {
+    pub fn right_steps_from(&self, now: u64, bits: u64) -> Result<Steps<'t>, Refusal> {
         self.right.steps(RIGHT_NOW, now, bits)
     }
 
