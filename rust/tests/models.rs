@@ -126,7 +126,11 @@ fn places_by_look_ups() {
     let verdict = table.compare(MIXED, b"000101\n", Mode::Strong, 1_000_000).unwrap();
     let mut steps = 0;
     for now in (0..1 << found.bits).filter(|code| found.leaves.iter().all(|l| l.state(*code) < l.states)) {
-        let expected = moved(&found, &lines, now);
+        let mut expected = moved(&found, &lines, now);
+        let mut walked: Vec<(u64, u64)> = verdict.left_steps_from(now, found.bits).unwrap().collect();
+        expected.sort_unstable();
+        walked.sort_unstable();
+        assert_eq!(walked, expected, "{now}");
         for action in 0..64 {
             for next in 0..1 << found.bits {
                 let holds = verdict.left_steps(action, now, next).unwrap();
