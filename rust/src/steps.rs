@@ -6,6 +6,7 @@ use std::collections::HashMap;
 
 /// The steps from a state, by action and next code, in no order that counts: every walk to 1 from a relation's root, with the now code
 /// fixed and all other codes 0. The time goes with the steps that are taken, not with the codes that could be asked for.
+#[derive(Debug)]
 pub struct Steps<'t> {
     table: &'t Table,
     /// Where the levels of a bit of the now code stand; those of the next code are behind them.
@@ -18,6 +19,7 @@ pub struct Steps<'t> {
 }
 
 /// A walk that goes on: its entry, how many bits are chosen, and these: the action's, then those of the next code.
+#[derive(Debug)]
 struct Open {
     entry: u32,
     rank: u32,

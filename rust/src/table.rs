@@ -299,6 +299,15 @@ impl<'t> Verdict<'t> {
 
     /// All steps of the left model from the state `now`. `bits` are those of the model ([`Model::bits`](crate::Model)). Refused with 10
     /// where `now` is not below [`CODES`], or the bits are more than [`MAX_BITS`].
+    ///
+    /// ```
+    /// # use seipolku::{model, Mode, Table};
+    /// let text = b"000102000201\n";
+    /// let mut table = Table::new(4096).unwrap();
+    /// let verdict = table.compare(text, text, Mode::Strong, 9).unwrap();
+    /// let steps: Vec<(u64, u64)> = verdict.left_steps_from(0, model(text).unwrap().bits).unwrap().collect();
+    /// assert_eq!(steps, [(2, 1)]);
+    /// ```
     pub fn left_steps_from(&self, now: u64, bits: u64) -> Result<Steps<'t>, Refusal> {
         self.left.steps(LEFT_NOW, now, bits)
     }
