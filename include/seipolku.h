@@ -36,14 +36,15 @@ uint64_t seipolku_compare(const uint8_t *left, size_t left_len, const uint8_t *r
                           uint64_t *answer, size_t answer_len);
 
 /* The value at an action and four state codes, from a root of an answer: 0 or 1; or 7 (slices unequal, or of a length that no table has)
- * or 10 (a number out of range, or a walk that leaves the table or its order). From a relation's root: whether the step is derived. From
- * the iterate's root of "equal": whether the largest bisimulation holds the two now codes. */
+ * or 10. 10 is due where the action is above 63 or a code is 2^24 or more, whatever bits the models have, and where the walk leaves the table
+ * or its order, or comes to a node of a level above 149 (5 + 6 * 24). From a relation's root: whether the step is derived. From the iterate's
+ * root of "equal": whether the largest bisimulation holds the two now codes. */
 uint64_t seipolku_look_up(const uint8_t *level, size_t level_len, const uint32_t *low, size_t low_len, const uint32_t *high, size_t high_len,
                           uint64_t root, uint64_t action, uint64_t left_now, uint64_t left_next, uint64_t right_now, uint64_t right_next);
 
 /* What the model of a text is. Accepted: the bits of its state codes, the text's lines, and its leaf uses and states, where all combinations
- * of its leaves' states are counted, reachable or not. A model of n bits has the codes 0 to 2^n - 1; state 0 of every leaf is the start, code 0.
- * Refused: the refusal 1 to 6 with its line, and side 0, as seipolku_compare gives it for a left text. */
+ * of its leaves' states are counted, reachable or not. A model of n bits, at most 24, has the codes 0 to 2^n - 1; state 0 of every leaf is the
+ * start, code 0. Refused: the refusal 1 to 6 with its line, and side 0, as seipolku_compare gives it for a left text. */
 uint64_t seipolku_model(const uint8_t *text, size_t text_len, uint64_t *answer, size_t answer_len);
 
 #ifdef __cplusplus

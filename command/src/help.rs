@@ -59,7 +59,7 @@ reachable or not.
 
   --mode strong|weak   Default: weak.
   --reachable          only states that can be reached from the starts.
-  --most N             the most pairs to ask for. Default: 1,000,000.
+  --most N             the most pairs to ask for. Default: 1,000,000; at most 1,000,000,000, of which 10,000,000 are listed.
   --limit N, --nodes N, --by-number as for compare.
 
 Exit status: 0 equal, 1 different, 2 refused by the library; 3 as for compare, or too large to list.
@@ -77,7 +77,7 @@ Lists the states that can be reached from the start and their steps, which the o
 
   --all      every state, reachable or not.
   --line K   the process of line K in place of the last one.
-  --most N   the most states. Default: 1,000. A larger model is not listed at all.
+  --most N   the most states. Default: 1,000. A larger model is not listed at all, nor one with more than 10,000,000 states and steps.
 
 Examples:
   seipolku steps models/shuttle_one.hex

@@ -1,5 +1,6 @@
 //! Elapsed time on a terminal while calls of the library run.
 
+use seipolku::LAST_LEVEL;
 use std::io::{IsTerminal, Write};
 use std::sync::mpsc;
 use std::thread;
@@ -7,8 +8,8 @@ use std::time::{Duration, Instant};
 
 const FIRST: Duration = Duration::from_millis(500);
 const EACH: Duration = Duration::from_millis(200);
-/// More than the library's recursion over 126 levels takes.
-const STACK: usize = 16 << 20;
+/// More than the library's recursion over the levels takes: 128 KiB a level.
+const STACK: usize = (LAST_LEVEL as usize + 1) << 17;
 
 /// Runs the call, and says the time that it took. Its table belongs to the call while it runs, so that only the time is shown.
 pub fn timed<T: Send>(what: &str, show: bool, call: impl FnMut() -> T + Send) -> (T, Duration) {

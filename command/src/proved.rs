@@ -1,7 +1,7 @@
 //! The calls of the proved library. Every answer about a model comes from here.
 
 use crate::outcome::{fail, grouped, Failure};
-use seipolku::{Fault, Mode, Refusal, Root, Side, Table, TableError, MAX_TABLE};
+use seipolku::{model, Fault, Mode, Refusal, Root, Side, Table, TableError, MAX_TABLE};
 
 pub const LIMIT: u64 = 1_000_000;
 pub const ENTRIES: u64 = MAX_TABLE as u64;
@@ -49,40 +49,41 @@ impl Verdict {
 
 /// Why the library does not accept a text, if it does not.
 pub fn refusal(text: &[u8]) -> Option<Refusal> {
-    seipolku::model(text).err()
+    model(text).err()
 }
 
 /// The derived steps of a model, as the library shows them.
 pub struct Relation<'t> {
-    root: Root<'t>,
-    look_ups: std::cell::Cell<u64>,
+    shown: seipolku::Verdict<'t>,
+    bits: u64,
 }
-
-/// Above this many look-ups, listing takes minutes.
-const MOST_LOOK_UPS: u64 = 1_000_000_000;
 
 impl<'t> Relation<'t> {
     /// Compares with a model that has no steps, which needs few nodes beside the relation.
     pub fn of(text: &[u8], table: &'t mut Lent) -> Result<Relation<'t>, Refusal> {
-        let verdict = table.get()?.compare(text, IDLE, Mode::Strong, LIMIT)?;
-        Ok(Relation { root: verdict.left, look_ups: std::cell::Cell::new(0) })
+        let bits = model(text)?.bits;
+        Ok(Relation { shown: table.get()?.compare(text, IDLE, Mode::Strong, LIMIT)?, bits })
     }
 
-    pub fn holds(&self, now: u64, action: u8, next: u64) -> Result<bool, Failure> {
-        self.look_ups.set(self.look_ups.get() + 1);
-        if self.look_ups.get() > MOST_LOOK_UPS {
-            return fail(
-                "the model is too large to list: more than a thousand million look-ups would be needed. List a line \
-                 of it with --line K.",
-            );
+    /// The steps from a state, by action and next code, or so many of them. They are found in the table, and the library confirms each one.
+    pub fn steps(&self, now: u64, most: usize) -> Result<Vec<(u8, u64)>, Failure> {
+        let mut steps = Vec::new();
+        for (action, next) in self.shown.left_steps_from(now, self.bits).map_err(unexpected)?.take(most) {
+            if !look_up(self.shown.left, action, [now, next, 0, 0])? {
+                return fail("a step that was found does not hold; please report this with the model.");
+            }
+            steps.push((action as u8, next));
         }
-        look_up(self.root, u64::from(action), [now, next, 0, 0])
+        steps.sort_unstable();
+        Ok(steps)
     }
 }
 
-/// A look-up whose refusal, which no code of a model gives, becomes a sentence.
 pub fn look_up(root: Root<'_>, action: u64, codes: [u64; 4]) -> Result<bool, Failure> {
-    root.look_up(action, codes).map_err(|refusal| {
-        Failure(format!("the library refused a look-up ({refusal}); please report this with the model."))
-    })
+    root.look_up(action, codes).map_err(unexpected)
+}
+
+/// A refusal that no code of a model gives.
+fn unexpected(refusal: Refusal) -> Failure {
+    Failure(format!("the library refused a look-up ({refusal}); please report this with the model."))
 }

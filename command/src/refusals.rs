@@ -3,7 +3,8 @@
 use crate::culprit::{self, Culprit};
 use crate::files;
 use crate::outcome::{counted, grouped};
-use seipolku::{Refusal, Side, MAX_TABLE};
+use seipolku::frames::MOST_USES;
+use seipolku::{Refusal, Side, MAX_BITS, MAX_TABLE};
 use std::path::Path;
 
 /// What a comparison was called with.
@@ -15,19 +16,22 @@ pub struct Call<'a> {
 }
 
 /// The rule that is broken.
-pub fn rule(refusal: &Refusal) -> &'static str {
-    match refusal.fault.number() {
+pub fn rule(refusal: &Refusal) -> String {
+    let rule = match refusal.fault.number() {
         1 => "a text is made of capital hexadecimal digits, two for a byte; it is not empty, and every line ends with a newline",
         2 => "a line has 2 to 255 bytes",
         3 => "byte 0 of a line is the line's number, counted from 0, and a text has at most 64 lines",
         4 => "byte 1 of a line is its kind, 01 to 06, and each kind has its own length",
         5 => "a state count, state, action, channel or operand is out of range",
-        6 => "a line's process has at most 20 bits of state and 64 uses of leaves",
+        6 => {
+            return format!("a line's process has at most {MAX_BITS} bits of state and {MOST_USES} uses of leaves")
+        }
         7 => "a table has 2 to 1,048,576 entries",
         8 => "the comparison needs more nodes than fit into the table",
         9 => "no verdict was reached within the limit of rounds",
         _ => "a look-up left the table",
-    }
+    };
+    rule.to_string()
 }
 
 fn what_to_do(refusal: &Refusal) -> &'static str {
@@ -57,7 +61,7 @@ pub fn short(refusal: &Refusal) -> String {
         (Side::Neither, 7) => "there is no such table".to_string(),
         (Side::Neither, 8) => "the table is full".to_string(),
         (Side::Neither, 9) => "the limit is reached".to_string(),
-        (Side::Neither, _) => rule(refusal).to_string(),
+        (Side::Neither, _) => rule(refusal),
         _ => format!("line {} of the {} model", refusal.line, side(refusal)),
     };
     format!("{number}, {words}")

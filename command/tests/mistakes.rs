@@ -89,7 +89,7 @@ fn sizes() {
     let leaves: String = (0..65).map(|n| format!("leaf a{n}\n  states s\n")).collect();
     says(&leaves, "line 129, column 6: this definition makes line 64");
     let states: String = (0..64).map(|n| format!("s{n} ")).collect();
-    let large = format!("leaf a\n  states {states}\nb = compose a a\nc = compose b b\n");
+    let large = format!("leaf a\n  states {states}\nb = compose a a\nc = compose b b a\n");
     says(&large, "line 4, column 1: refusal 6");
 }
 

@@ -117,7 +117,7 @@ fn json_in_every_case() {
 fn refused_or_wrong() {
     let folder = Folder::new();
     folder.write("bad.hex", "000102000202\n");
-    folder.write("large.model", "leaf a\n  states s0, s1, s2\nb = compose a a a a a a\nc = compose b b\n");
+    folder.write("large.model", "leaf a\n  states s0, s1, s2\nb = compose a a a a a a\nc = compose b b a\n");
     for command in [&["check"][..], &["show"], &["steps"], &["to-aut"], &["build", "--text"]] {
         assert_eq!(folder.run(&[command, &["bad.hex"]].concat()).status, 2, "{command:?}");
         assert_eq!(folder.run(&[command, &["none.hex"]].concat()).status, 3, "{command:?}");

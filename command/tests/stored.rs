@@ -88,23 +88,33 @@ fn refused_texts() {
         ("refused_5_action", "000102000101\n"),
         ("refused_5_channel", "000102000201\n01030020\n"),
         ("refused_5_operand", "000102000201\n01030101\n"),
-        ("refused_6", "000140\n01020000\n02020101\n"),
+        ("refused_6", "000140\n01020000\n02020101\n030102\n04020203\n"),
         ("refused_aut", "des (0, 0, 1)\n"),
     ];
     for (name, text) in texts {
-        let folder = Folder::new();
-        folder.write("model.hex", text);
-        folder.write("good.hex", "000101\n");
-        let mut all = String::new();
-        for words in
-            [&["check", "model.hex"][..], &["compare", "good.hex", "model.hex"], &["show", "model.hex"]]
-        {
-            let ran = folder.run(words);
-            assert_eq!(ran.status, 2, "{name} {words:?}");
-            all += &format!("$ {}\n{}{}", words.join(" "), ran.out, ran.err);
-        }
-        compare(name, &Ran { out: all, err: String::new(), status: 2 });
+        judged(name, text, 2);
     }
+}
+
+/// A text that has all the bits that a model may have.
+#[test]
+fn largest_text() {
+    judged("accepted_24_bits", "000140\n01020000\n02020101\n", 0);
+}
+
+/// A text alone and on the right side.
+fn judged(name: &str, text: &str, status: i32) {
+    let folder = Folder::new();
+    folder.write("model.hex", text);
+    folder.write("good.hex", "000101\n");
+    let mut all = String::new();
+    for words in [&["check", "model.hex"][..], &["compare", "good.hex", "model.hex"], &["show", "model.hex"]]
+    {
+        let ran = folder.run(words);
+        assert_eq!(ran.status, status, "{name} {words:?}");
+        all += &format!("$ {}\n{}{}", words.join(" "), ran.out, ran.err);
+    }
+    compare(name, &Ran { out: all, err: String::new(), status });
 }
 
 fn compare(name: &str, ran: &Ran) {

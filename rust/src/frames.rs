@@ -51,7 +51,7 @@ pub const MOST_CHANNEL: u8 = 31;
 pub const MOST_BYTES: usize = 255;
 /// Triples of one leaf: 255 bytes less number, kind and state count, by three.
 pub const MOST_TRIPLES: usize = (MOST_BYTES - 3) / 3;
-const MOST_USES: usize = 64;
+pub const MOST_USES: usize = 64;
 
 impl Lines {
     /// The lines of an accepted text; nothing for some texts that are not accepted.

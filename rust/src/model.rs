@@ -7,7 +7,7 @@ use crate::refusal::Refusal;
 /// The model of an accepted text. The numbers are those of the proved library.
 #[derive(Clone, Debug, PartialEq, Eq)]
 pub struct Model {
-    /// The bits of a state's code: codes are 0 to 2^bits - 1, and 0 is the start.
+    /// The bits of a state's code, at most [`MAX_BITS`](crate::MAX_BITS): codes are 0 to 2^bits - 1, and 0 is the start.
     pub bits: u64,
     /// The lines of the text.
     pub lines: u64,

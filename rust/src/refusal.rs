@@ -1,5 +1,7 @@
 //! Refusals, by document 01's numbers and in words.
 
+use crate::frames::MOST_USES;
+use crate::limits::MAX_BITS;
 use std::fmt;
 
 /// Which text a refusal speaks of.
@@ -23,7 +25,7 @@ pub enum Fault {
     Kind,
     /// 5: a state count, state, action, channel or operand out of range.
     Range,
-    /// 6: more than 20 bits or 64 leaf uses.
+    /// 6: more than [`MAX_BITS`] bits or 64 leaf uses.
     Limits,
     /// 7: a table that does not fit, or no such mode.
     Table,
@@ -67,19 +69,22 @@ impl Fault {
         }
     }
 
-    fn words(self) -> &'static str {
-        match self {
+    fn words(self) -> String {
+        let words = match self {
             Fault::Digits => "not hexadecimal capitals, two digits a byte, in an ended line",
             Fault::Size => "a frame has 2 to 255 bytes",
             Fault::LineNumber => "byte 0 is not the line's number, or there are more than 64 lines",
             Fault::Kind => "an unknown kind, or a length that its kind can't have",
             Fault::Range => "a state count, state, action, channel or operand is out of range",
-            Fault::Limits => "the line's process has more than 20 bits or 64 leaf uses",
+            Fault::Limits => {
+                return format!("the line's process has more than {MAX_BITS} bits or {MOST_USES} leaf uses")
+            }
             Fault::Table => "the table does not fit",
             Fault::Full => "the comparison needs more nodes than fit into the table",
             Fault::Spent => "no verdict within the limit of rounds",
             Fault::LookUp => "a number out of range, or a walk that leaves the table",
-        }
+        };
+        words.to_string()
     }
 }
 
@@ -109,7 +114,7 @@ impl fmt::Display for Refusal {
         match self.side {
             Side::Left => write!(f, "left model, line {}: {words}", self.line),
             Side::Right => write!(f, "right model, line {}: {words}", self.line),
-            Side::Neither => f.write_str(words),
+            Side::Neither => f.write_str(&words),
         }
     }
 }

@@ -4,7 +4,9 @@ use std::alloc::{alloc_zeroed, Layout};
 use std::fmt;
 
 use crate::ffi;
+use crate::limits::{CODES, MAX_BITS};
 use crate::refusal::{Fault, Refusal, Side};
+use crate::steps::Steps;
 
 /// The most entries that a table may have.
 pub const MAX_TABLE: usize = 1 << 20;
@@ -119,6 +121,12 @@ impl Table {
         })
     }
 
+    /// Level and children of a node; nothing for a constant.
+    pub(crate) fn node(&self, entry: u32) -> Option<(u32, [u32; 2])> {
+        let at = usize::try_from(entry).ok().filter(|at| *at > 1)?;
+        Some((u32::from(*self.level.get(at)?), [*self.low.get(at)?, *self.high.get(at)?]))
+    }
+
     fn call(&mut self, [left, right]: [&[u8]; 2], mode: Mode, limit: u64, answer: &mut [u64; 6]) -> u64 {
         // SAFETY: each pointer comes with the length of the slice that it points to; the slices are apart, and the library
         // writes to those that are lent as mutable only.
@@ -212,9 +220,9 @@ impl fmt::Debug for Root<'_> {
     }
 }
 
-impl Root<'_> {
+impl<'t> Root<'t> {
     /// The value at an action and four state codes: left now and next, right now and next. Refused with 10 where the action is above
-    /// 63 or a code has more than 20 bits.
+    /// 63 or a code is not below [`CODES`].
     pub fn look_up(&self, action: u64, codes: [u64; 4]) -> Result<bool, Refusal> {
         let Table { level, low, high, .. } = self.table;
         // SAFETY: as in `Table::call`; nothing is written.
@@ -237,10 +245,29 @@ impl Root<'_> {
         match value {
             0 => Ok(false),
             1 => Ok(true),
-            number => Err(Refusal { fault: Fault::of(number), side: Side::Neither, line: 0 }),
+            number => Err(refused(number)),
+        }
+    }
+
+    /// The steps from a state that a relation holds; the slot is the one of the model's now code.
+    fn steps(&self, slot: u32, now: u64, bits: u64) -> Result<Steps<'t>, Refusal> {
+        match (u32::try_from(bits), u32::try_from(self.entry)) {
+            (Ok(bits), Ok(root)) if bits <= MAX_BITS && now < CODES => {
+                Ok(Steps::new(self.table, root, slot, bits, now))
+            }
+            _ => Err(refused(Fault::LookUp.number())),
         }
     }
 }
+
+/// The refusal of a look-up.
+fn refused(number: u64) -> Refusal {
+    Refusal { fault: Fault::of(number), side: Side::Neither, line: 0 }
+}
+
+/// The slots of the now codes.
+const LEFT_NOW: u32 = 0;
+const RIGHT_NOW: u32 = 3;
 
 /// A verdict, with the roots of what its table shows.
 #[derive(Clone, Copy, Debug)]
@@ -255,7 +282,7 @@ pub struct Verdict<'t> {
     pub nodes: u64,
 }
 
-impl Verdict<'_> {
+impl<'t> Verdict<'t> {
     pub fn equal(&self) -> bool {
         self.largest.is_some()
     }
@@ -268,6 +295,26 @@ impl Verdict<'_> {
     /// The same of the right model.
     pub fn right_steps(&self, action: u64, now: u64, next: u64) -> Result<bool, Refusal> {
         self.right.look_up(action, [0, 0, now, next])
+    }
+
+    /// All steps of the left model from the state `now`. `bits` are those of the model ([`Model::bits`](crate::Model)). Refused with 10
+    /// where `now` is not below [`CODES`], or the bits are more than [`MAX_BITS`].
+    ///
+    /// ```
+    /// # use seipolku::{model, Mode, Table};
+    /// let text = b"000102000201\n";
+    /// let mut table = Table::new(4096).unwrap();
+    /// let verdict = table.compare(text, text, Mode::Strong, 9).unwrap();
+    /// let steps: Vec<(u64, u64)> = verdict.left_steps_from(0, model(text).unwrap().bits).unwrap().collect();
+    /// assert_eq!(steps, [(2, 1)]);
+    /// ```
+    pub fn left_steps_from(&self, now: u64, bits: u64) -> Result<Steps<'t>, Refusal> {
+        self.left.steps(LEFT_NOW, now, bits)
+    }
+
+    /// The same of the right model.
+    pub fn right_steps_from(&self, now: u64, bits: u64) -> Result<Steps<'t>, Refusal> {
+        self.right.steps(RIGHT_NOW, now, bits)
     }
 
     /// Whether the largest bisimulation holds the pair of states; nothing where the models are different, since the table then shows

@@ -1,7 +1,7 @@
 //! What the model of a text is: stored texts, and the leaves' places against look-ups.
 
 use seipolku::frames::{Frame, Lines};
-use seipolku::{model, LeafUse, Mode, Model, Side, Table};
+use seipolku::{model, LeafUse, Mode, Model, Side, Table, MAX_BITS};
 use std::fs;
 use std::path::PathBuf;
 
@@ -127,6 +127,7 @@ fn places_by_look_ups() {
     let mut steps = 0;
     for now in (0..1 << found.bits).filter(|code| found.leaves.iter().all(|l| l.state(*code) < l.states)) {
         let expected = moved(&found, &lines, now);
+        assert_eq!(sorted(verdict.left_steps_from(now, found.bits).unwrap()), expected, "{now}");
         for action in 0..64 {
             for next in 0..1 << found.bits {
                 let holds = verdict.left_steps(action, now, next).unwrap();
@@ -138,7 +139,37 @@ fn places_by_look_ups() {
     assert_eq!(steps, 45 / 5 * 2 + 2 * (45 / 3 * 2) + 45);
 }
 
-/// The steps of a code by action and next code, where the leaves never meet.
+/// The same leaves in the highest bits that there are, above leaves without steps, as left and as right model.
+#[test]
+fn places_in_the_highest_bits() {
+    let above = b"060140\n070120\n08020606\n09020807\n0A020905\n";
+    let text = [MIXED, above].concat();
+    let (found, low) = (model(&text).unwrap(), model(MIXED).unwrap());
+    assert_eq!(found.bits, u64::from(MAX_BITS));
+    let lines = Lines::decode(&text).unwrap();
+    let mut tables = [1 << 16; 2].map(|entries| Table::new(entries).unwrap());
+    let [one, other] = &mut tables;
+    let left = one.compare(&text, b"000101\n", Mode::Strong, 1_000_000).unwrap();
+    let right = other.compare(b"000101\n", &text, Mode::Strong, 1_000_000).unwrap();
+    for state in (0..1 << low.bits).filter(|code| low.leaves.iter().all(|l| l.state(*code) < l.states)) {
+        let now = (state << (found.bits - low.bits)) + 0x1_2345;
+        let expected = moved(&found, &lines, now);
+        assert_eq!(sorted(left.left_steps_from(now, found.bits).unwrap()), expected, "{now}");
+        assert_eq!(sorted(right.right_steps_from(now, found.bits).unwrap()), expected, "{now}");
+        for (action, next) in expected {
+            assert_eq!(left.left_steps(action, now, next), Ok(true));
+            assert_eq!(right.right_steps(action, now, next), Ok(true));
+        }
+    }
+}
+
+fn sorted(steps: impl Iterator<Item = (u64, u64)>) -> Vec<(u64, u64)> {
+    let mut all: Vec<(u64, u64)> = steps.collect();
+    all.sort_unstable();
+    all
+}
+
+/// The steps of a code by action and next code, ascending, where the leaves never meet.
 fn moved(found: &Model, lines: &Lines, now: u64) -> Vec<(u64, u64)> {
     let mut steps = Vec::new();
     for leaf in &found.leaves {
@@ -148,5 +179,5 @@ fn moved(found: &Model, lines: &Lines, now: u64) -> Vec<(u64, u64)> {
             steps.push((u64::from(triple.action), others + (u64::from(triple.to) << leaf.shift)));
         }
     }
-    steps
+    sorted(steps.into_iter())
 }

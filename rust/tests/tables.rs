@@ -1,6 +1,6 @@
 //! Tables of every length, and what their verdicts show.
 
-use seipolku::{Fault, Mode, Table, TableError, Verdict, MAX_TABLE};
+use seipolku::{Fault, Mode, Table, TableError, Verdict, CODES, MAX_TABLE};
 
 const LIMIT: u64 = 1_000_000;
 const P2: (&[u8], &[u8]) = (b"000102000201\n", b"000103000001010202\n");
@@ -78,7 +78,7 @@ fn numbers_out_of_range() {
     let verdict = weak(&mut table);
     let number = |refused: Result<bool, seipolku::Refusal>| refused.unwrap_err().fault;
     assert_eq!(number(verdict.left_steps(64, 0, 0)), Fault::LookUp);
-    assert_eq!(number(verdict.right_steps(0, 1 << 20, 0)), Fault::LookUp);
+    assert_eq!(number(verdict.right_steps(0, CODES, 0)), Fault::LookUp);
     assert_eq!(number(verdict.left.look_up(0, [0, u64::MAX, 0, 0])), Fault::LookUp);
     assert_eq!(verdict.related(u64::MAX, 0).unwrap_err().fault, Fault::LookUp);
 }

@@ -7,7 +7,7 @@ use crate::load::{load_both, Loaded};
 use crate::outcome::{counted, fail, grouped, Answer, Failure, Outcome, Stopped, DIFFERENT, EQUAL, REFUSED};
 use crate::progress;
 use crate::proved::{self, Lent, Verdict, ENTRIES, LIMIT};
-use crate::reach;
+use crate::reach::{self, MOST_LINES};
 use crate::refusals::{self, Call};
 use crate::space::Space;
 use seipolku::{Mode, Refusal, Root};
@@ -20,6 +20,9 @@ pub const FORM: Form = Form {
 
 /// How many pairs are asked for unless --most says otherwise.
 const MOST_ASKED: u64 = 1_000_000;
+
+/// Above this many look-ups, listing takes minutes.
+const MOST_LOOK_UPS: u64 = 1_000_000_000;
 
 pub fn run(given: &Given) -> Answer {
     let files = given.two_files()?;
@@ -84,15 +87,22 @@ fn codes(given: &Given, models: &[Loaded; 2]) -> Result<[Vec<u64>; 2], Stopped> 
     let asked = codes.iter().map(|c| c.len() as u64).product::<u64>();
     let sizes = [&models[0], &models[1]].map(|m| Space::of(&m.model).states());
     let wanted = if given.flag("--reachable") { asked } else { sizes[0].saturating_mul(sizes[1]) };
-    if wanted > most {
-        return fail(format!(
-            "the models have {} of states, too many to list; the limit is {}. List the reachable ones with --reachable, or allow \
-             more with --most N.",
-            counted(wanted, "pair"),
-            grouped(most)
-        ));
+    match wanted > most.min(MOST_LOOK_UPS) {
+        true => too_many(wanted, most),
+        false => Ok(codes),
     }
-    Ok(codes)
+}
+
+fn too_many<T>(wanted: u64, most: u64) -> Result<T, Stopped> {
+    let advice = match wanted > MOST_LOOK_UPS {
+        true => format!("make the models smaller: no --most allows more than {}", grouped(MOST_LOOK_UPS)),
+        false => "allow more with --most N".to_string(),
+    };
+    fail(format!(
+        "the models have {} of states, too many to list; the limit is {}. List the reachable ones with --reachable, or {advice}.",
+        counted(wanted, "pair"),
+        grouped(most.min(MOST_LOOK_UPS))
+    ))
 }
 
 /// All codes, or none where there are too many.
@@ -105,15 +115,28 @@ fn within(space: Space, most: u64) -> Vec<u64> {
 
 fn list(root: Root<'_>, models: &[Loaded; 2], codes: &[Vec<u64>; 2]) -> Lines {
     let spaces = [Space::of(&models[0].model), Space::of(&models[1].model)];
-    let mut lines = Vec::new();
-    for left in &codes[0] {
-        for right in &codes[1] {
-            if proved::look_up(root, 0, [*left, 0, *right, 0])? {
-                let one = spaces[0].words(*left, &models[0].names);
-                let other = spaces[1].words(*right, &models[1].names);
-                lines.push(format!("{one}  ~  {other}\n"));
-            }
+    let line = |(left, right): (u64, u64)| {
+        let one = spaces[0].words(left, &models[0].names);
+        let other = spaces[1].words(right, &models[1].names);
+        format!("{one}  ~  {other}\n")
+    };
+    Ok(held(root, codes)?.into_iter().map(line).collect())
+}
+
+/// The pairs of codes that the largest bisimulation holds.
+fn held(root: Root<'_>, codes: &[Vec<u64>; 2]) -> Result<Vec<(u64, u64)>, Failure> {
+    let mut pairs = Vec::new();
+    for (left, right) in codes[0].iter().flat_map(|left| codes[1].iter().map(move |right| (*left, *right))) {
+        if proved::look_up(root, 0, [left, 0, right, 0])? {
+            pairs.push((left, right));
+        }
+        if pairs.len() as u64 > MOST_LINES {
+            return fail(format!(
+                "more than {} are in the largest bisimulation, too many to list with any --most. List fewer with --reachable, or make \
+                 the models smaller.",
+                counted(MOST_LINES, "pair")
+            ));
         }
     }
-    Ok(lines)
+    Ok(pairs)
 }

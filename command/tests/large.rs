@@ -1,0 +1,216 @@
+//! Models at the limit of bits: every subcommand answers, or says at once what is too large and what to do.
+
+mod common;
+
+use common::{Folder, Ran};
+use seipolku::{CODES, MAX_BITS};
+use std::time::{Duration, Instant};
+
+/// More than any of these runs takes on a slow machine, and far less than asking for every code.
+const AT_ONCE: Duration = Duration::from_secs(20);
+
+/// A leaf, used so many times: each further line puts it to the one before.
+fn chain(leaf: &str, uses: u32, operator: &str, list: &str) -> String {
+    let line = |number| format!("{number:02X}{operator}{:02X}00{list}\n", number - 1);
+    format!("{leaf}\n{}", (1..uses).map(line).collect::<String>())
+}
+
+/// Two states that are taken in turn; all leaves step together.
+fn joined(uses: u32) -> String {
+    chain("000102000201010300", uses, "06", "01")
+}
+
+/// The same, where each leaf steps alone or two meet.
+fn composed(uses: u32) -> String {
+    chain("000102000201010300", uses, "02", "")
+}
+
+/// Leaves of 64 states in a ring, each alone.
+fn rings(uses: u32) -> String {
+    let ring: String = (0..64).map(|s| format!("{s:02X}02{:02X}", (s + 1) % 64)).collect();
+    chain(&format!("000140{ring}"), uses, "02", "")
+}
+
+/// From the start each leaf goes to any of 64 states, all leaves together.
+fn fans(uses: u32) -> String {
+    let fan: String = (0..64).map(|s| format!("0002{s:02X}")).collect();
+    chain(&format!("000140{fan}"), uses, "06", "01")
+}
+
+fn folder() -> Folder {
+    let folder = Folder::new();
+    for bits in [20, 21, MAX_BITS, MAX_BITS + 1] {
+        folder.write(&format!("joined{bits}.hex"), joined(bits));
+        folder.write(&format!("composed{bits}.hex"), composed(bits));
+    }
+    folder.write("joined1.hex", joined(1));
+    folder.write("rings.hex", rings(MAX_BITS / 6));
+    folder.write("fans.hex", fans(MAX_BITS / 6));
+    folder
+}
+
+/// A run that ends at once.
+fn quick(folder: &Folder, words: &[&str]) -> Ran {
+    let start = Instant::now();
+    let ran = folder.run(words);
+    assert!(start.elapsed() < AT_ONCE, "{words:?}: {:?}", start.elapsed());
+    ran
+}
+
+/// A run that fails at once, with these words.
+fn fails(folder: &Folder, words: &[&str], expected: &str) {
+    let ran = quick(folder, words);
+    assert_eq!((ran.status, ran.out.as_str()), (3, ""), "{words:?}: {}", ran.err);
+    assert!(ran.err.contains(expected), "{words:?}: {}", ran.err);
+}
+
+#[test]
+fn sizes() {
+    let folder = folder();
+    for (bits, states) in [(20, "1,048,576"), (21, "2,097,152"), (24, "16,777,216")] {
+        let size = format!("{bits} lines, 1 leaf line, {bits} leaf uses, {bits} bits, {states} states");
+        for file in [format!("joined{bits}.hex"), format!("composed{bits}.hex")] {
+            assert_eq!(folder.done(&["check", &file]), format!("{file}: accepted: {size}.\n"));
+            assert!(folder.done(&["show", &file]).starts_with(&format!("{file}: {size}\n")));
+        }
+    }
+    assert!(folder.done(&["check", "rings.hex"]).contains("4 leaf uses, 24 bits, 16,777,216 states."));
+}
+
+/// Only two states of the joined leaves can be reached, the one of code 0 and the one of the largest code.
+#[test]
+fn steps_of_joined_leaves() {
+    let folder = folder();
+    for bits in [20, 21, MAX_BITS] {
+        let file = format!("joined{bits}.hex");
+        let state = |s: u32| (1..=bits).map(|k| format!("p0#{k}={s}")).collect::<Vec<_>>().join(" ");
+        let (zeros, ones) = (state(0), state(1));
+        let steps = format!("{zeros}\n  -- out c1 --> {ones}\n{ones}\n  -- in c1 --> {zeros}\n");
+        let expected = format!("2 reachable states, 2 steps\n{steps}");
+        assert_eq!(quick(&folder, &["steps", &file]).out, expected);
+        assert_eq!(
+            quick(&folder, &["to-aut", &file]).out,
+            "des (0, 2, 2)\n(0, \"c1!\", 1)\n(1, \"c1?\", 0)\n"
+        );
+        let picture = quick(&folder, &["show", &file, "--dot"]).out;
+        assert!(
+            picture.contains("  s0 -> s1 [label=\"c1!\"];\n  s1 -> s0 [label=\"c1?\"];\n}\n"),
+            "{picture}"
+        );
+        let pairs = quick(&folder, &["pairs", &file, "joined1.hex", "--reachable"]).out;
+        let head = "weak equal, 2 pairs of reachable states in the largest bisimulation\n";
+        assert_eq!(pairs, format!("{head}{zeros}  ~  p0=0\n{ones}  ~  p0=1\n"));
+    }
+}
+
+#[test]
+fn verdicts() {
+    let folder = folder();
+    for bits in [20, 21, MAX_BITS] {
+        let (joined, composed) = (format!("joined{bits}.hex"), format!("composed{bits}.hex"));
+        let equal = quick(&folder, &["compare", &joined, "joined1.hex"]);
+        assert_eq!(equal.status, 0, "{}", equal.out);
+        assert!(
+            equal.out.contains("strong  equal      2 rounds, ")
+                && equal.out.contains("weak    equal      2 rounds, ")
+        );
+        let json = quick(&folder, &["compare", "joined1.hex", &composed, "--mode", "strong", "--json"]);
+        assert!(json.out.contains("\"verdict\": \"different\""), "{}", json.out);
+        assert_eq!(quick(&folder, &["compare", &composed, &composed]).status, 2);
+    }
+}
+
+#[test]
+fn too_large_to_list() {
+    let folder = folder();
+    let reachable =
+        "has more than 1,000 reachable states, too many to list. Allow more with --most N, or take";
+    let whatever = "has more than 10,000,000 states and steps, too many to list with any --most. List a part of it with 'seipolku steps";
+    for file in [&format!("composed{MAX_BITS}.hex"), "rings.hex", "fans.hex"] {
+        for words in [&["steps", file][..], &["to-aut", file], &["show", file, "--dot"]] {
+            fails(&folder, words, reachable);
+        }
+        fails(&folder, &["steps", file, "--all"], whatever);
+        fails(&folder, &["steps", file, "--all", "--most", &CODES.to_string()], whatever);
+    }
+    fails(
+        &folder,
+        &["steps", "joined21.hex", "--all"],
+        "has 2,097,152 states, too many to list. Allow more with --most N",
+    );
+    let pairs = "the models have 281,474,976,710,656 pairs of states, too many to list; the limit is ";
+    let rings = ["pairs", "rings.hex", "rings.hex"];
+    fails(&folder, &rings, &format!("{pairs}1,000,000. List the reachable ones with --reachable"));
+    let advice = "make the models smaller: no --most allows more than 1,000,000,000.";
+    fails(&folder, &[&rings[..], &["--most", "281474976710656"]].concat(), advice);
+}
+
+/// A part of a model that is too large, and a part of a listing that is not.
+#[test]
+fn parts_are_listed() {
+    let folder = folder();
+    let ran = quick(&folder, &["steps", "rings.hex", "--line", "1", "--most", "4096"]);
+    assert!(
+        ran.out.starts_with("4,096 reachable states, 8,192 steps\n"),
+        "{}",
+        &ran.out[..ran.out.len().min(200)]
+    );
+    let ran = quick(&folder, &["steps", "fans.hex", "--line", "1", "--most", "4096"]);
+    assert!(
+        ran.out.starts_with("4,096 reachable states, 4,096 steps\n"),
+        "{}",
+        &ran.out[..ran.out.len().min(200)]
+    );
+}
+
+#[test]
+fn one_bit_more() {
+    let folder = folder();
+    let rule = "refusal 6, line 24 of the model (counted from 0): a line's process has at most 24 bits of state and 64 uses of leaves.";
+    for file in ["joined25.hex", "composed25.hex"] {
+        for command in [
+            &["check"][..],
+            &["show"],
+            &["show", "--dot"],
+            &["steps"],
+            &["steps", "--all"],
+            &["to-aut"],
+            &["build", "--text"],
+        ] {
+            let ran = folder.run(&[command, &[file]].concat());
+            assert_eq!(ran.status, 2, "{command:?}");
+            assert!(
+                format!("{}{}", ran.out, ran.err).contains(&format!("{file}, line 25, column 1: {rule}")),
+                "{command:?}"
+            );
+        }
+        assert_eq!(folder.run(&["pairs", file, "joined1.hex"]).status, 2);
+        let json = folder.run(&["compare", "joined1.hex", file, "--json"]);
+        assert!(json.out.contains("\"number\": 6, \"side\": \"right\", \"line\": 24"), "{}", json.out);
+    }
+}
+
+/// The readable form: a journal as a chain of cells, to the last bit and beyond.
+#[test]
+fn readable_form() {
+    let folder = Folder::new();
+    let text = |cells: u32| {
+        let cells = "cell ".repeat(cells as usize);
+        format!("channels put, take\n\nleaf cell\n  empty -- in put --> full\n  full -- out take --> empty\n\njournal = compose {cells}\n")
+    };
+    folder.write("fits.model", text(MAX_BITS));
+    let built = folder.done(&["build", "fits.model"]);
+    assert!(
+        built.ends_with(": 24 lines, 1 leaf line, 24 leaf uses, 24 bits, 16,777,216 states\n"),
+        "{built}"
+    );
+    let again = folder.done(&["build", "--text", "fits.hex"]);
+    folder.write("again.model", again);
+    folder.done(&["build", "again.model"]);
+    assert_eq!(folder.read("again.hex"), folder.read("fits.hex"));
+    folder.write("more.model", text(MAX_BITS + 1));
+    let ran = folder.run(&["build", "more.model"]);
+    let refusal = "more.model, line 7, column 1: refusal 6: a line's process has at most 24 bits of state and 64 uses of leaves.";
+    assert_eq!(ran.status, 2);
+    assert!(ran.err.contains(refusal), "{}", ran.err);
+}
