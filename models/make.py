@@ -15,6 +15,7 @@ TAU = "tau"
 LIMIT = 1_000_000
 PROGRAM_TABLE = 4096
 LARGEST_TABLE = 1 << 20
+NODES = 1 << 24    # the oracle's room for a list that fits no table
 MAX_BITS = 24
 
 names = []       # lines of NAMES.md
@@ -613,16 +614,19 @@ def oracle(*words, text=""):
     return done.stdout.strip() or done.stderr.strip()
 
 
-def answer(left, right, mode, verdict, explicit):
-    """Verdict and rounds by explicit pairs, and nodes; `-` where the list fits no table. Without explicit pairs
-    the list gives the verdict and the rounds too; if it fits no table, the argued verdict stands with `-` for both."""
+def answer(left, right, mode, explicit):
+    """Verdict and rounds by explicit pairs, or, where these are too many, by the list with room for NODES; and nodes,
+    `-` where the list fits no table."""
     files = path(left), path(right)
     found = oracle("verdict", *files, mode, LIMIT)
     assert explicit == (found != "too large to enumerate"), (left, right, mode, found)
+    if not explicit:
+        found = oracle("list", *files, mode, LIMIT, NODES)
+    found = found.split()[:2]
     counted = oracle("compare", *files, mode, LIMIT, LARGEST_TABLE).split()
     if counted == ["refused", "8", "2", "0"]:
-        return (found.split() if explicit else [verdict, "-"]) + ["-"]
-    assert not explicit or counted[:2] == found.split(), (left, right, mode, found, counted)
+        return found + ["-"]
+    assert counted[:2] == found, (left, right, mode, found, counted)
     return counted
 
 
@@ -647,7 +651,7 @@ def expected():
     rows = ["# left\tright\tmode\tverdict\trounds\tnodes"]
     lines = ["# name\tleft\tright\tmode\tlimit\tL\tanswer"]
     for left, right, mode, verdict, explicit in pairs:
-        found = answer(left, right, mode, verdict, explicit)
+        found = answer(left, right, mode, explicit)
         print(left, right, mode, *found, flush=True)
         if found[0] != verdict:
             sys.exit(f"expected {verdict}")
