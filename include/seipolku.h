@@ -22,6 +22,14 @@ enum {
     SEIPOLKU_SHORT = 3      /* answer has fewer than 6 words; nothing was touched */
 };
 
+/* Limits. A line's process has at most so many bits of state, so that codes are below 2^24; levels of nodes go from 0 to the last one; a table
+ * has at least 2 and at most so many entries. */
+enum {
+    SEIPOLKU_MAX_BITS = 24,
+    SEIPOLKU_LAST_LEVEL = 5 + 6 * SEIPOLKU_MAX_BITS,
+    SEIPOLKU_MAX_TABLE = 1048576
+};
+
 /* Compares the models of two texts, in strong mode (0) or weak mode (1), by the iterates up to the limit.
  *
  * level, low and high are the table: of one length, 2 to 1,048,576. A refusal 1 to 7 leaves them untouched; after a verdict they hold

@@ -12,6 +12,11 @@
 
 enum { LENT = 7, MOST_REPORTS = 20, ACTIONS = 64 };
 
+/* The header names the limits of these tests. */
+_Static_assert((int)SEIPOLKU_MAX_BITS == MAX_BITS, "bits");
+_Static_assert((int)SEIPOLKU_LAST_LEVEL == LAST_LEVEL, "levels");
+_Static_assert((int)SEIPOLKU_MAX_TABLE == LONGEST, "entries");
+
 /* A comparison but for its texts. Expected are the returned kind, and rounds and nodes or a refusal's number, side and line. */
 typedef struct { uint64_t mode, limit, table[3], work[3], words, seed, kind, expected[3]; } Call;
 
