@@ -1,7 +1,7 @@
 #!/usr/bin/env python3
 """Writes the model texts (*.hex), NAMES.md, EXPECTED.tsv and vectors.tsv from readable definitions.
 
-Run `python3 make.py` after building the oracle; it takes about 20 seconds. The verdicts below were settled
+Run `python3 make.py` after building the oracle; it takes under a minute. The verdicts below were settled
 by argument (README.md); the script stops if the oracle gives another one.
 """
 
@@ -201,35 +201,38 @@ def buffers():
 
 # Milner's scheduler, source document 001, figure 2 and table 2.
 
+def scheduler_cell():
+    return [("waits", "get?", "chosen"), ("chosen", "start!", "started"), ("started", TAU, "ended"),
+            ("ended", "put!", "waits"), ("started", "put!", "passed"), ("passed", TAU, "waits")]
+
+
+def placed(model, cell, i, count):
+    return model.relabel(cell, get=f"token{i}", start=f"task{i}", put=f"token{(i + 1) % count}")
+
+
+def ring(family, count, tokens):
+    model = Model(family)
+    cell = model.leaf("cell", scheduler_cell())
+    first = [(f"t{t}", "token0!", f"t{t + 1}") for t in range(tokens)]
+    total = model.leaf("initialization", first)
+    for i in range(count):
+        total = model.compose(total, placed(model, cell, i, count))
+    model.restrict(total, [f"token{i}" for i in range(count)])
+    return model
+
+
+def ring_first_chosen(family, count):
+    """No initialization: the first cell has the token at the start."""
+    model = Model(family)
+    cell = model.leaf("cell", scheduler_cell())
+    first = model.leaf("first cell", scheduler_cell(), states=["chosen"])
+    cells = [placed(model, cell if i else first, i, count) for i in range(count)]
+    model.restrict(model.compose(*cells), [f"token{i}" for i in range(count)])
+    return model
+
+
 def scheduler():
     family = Family("Milner's scheduler")
-
-    def cell_steps():
-        return [("waits", "get?", "chosen"), ("chosen", "start!", "started"),
-                ("started", TAU, "ended"), ("ended", "put!", "waits"),
-                ("started", "put!", "passed"), ("passed", TAU, "waits")]
-
-    def placed(model, cell, i, count):
-        return model.relabel(cell, get=f"token{i}", start=f"task{i}", put=f"token{(i + 1) % count}")
-
-    def ring(count, tokens):
-        model = Model(family)
-        cell = model.leaf("cell", cell_steps())
-        first = [(f"t{t}", "token0!", f"t{t + 1}") for t in range(tokens)]
-        total = model.leaf("initialization", first)
-        for i in range(count):
-            total = model.compose(total, placed(model, cell, i, count))
-        model.restrict(total, [f"token{i}" for i in range(count)])
-        return model
-
-    def ring_first_chosen(count):
-        """No initialization: the first cell has the token at the start."""
-        model = Model(family)
-        cell = model.leaf("cell", cell_steps())
-        first = model.leaf("first cell", cell_steps(), states=["chosen"])
-        cells = [placed(model, cell if i else first, i, count) for i in range(count)]
-        model.restrict(model.compose(*cells), [f"token{i}" for i in range(count)])
-        return model
 
     def order(sequence, name):
         count = len(sequence)
@@ -237,17 +240,17 @@ def scheduler():
         return single_leaf(family, name, steps)
 
     for count in (2, 3, 4, 5, 6, 7):
-        system = ring(count, 1).save(f"scheduler{count}")
+        system = ring(family, count, 1).save(f"scheduler{count}")
         service = order(range(count), f"scheduler{count}_order")
         pair(system, service, "different", "equal", explicit=count < 7)
     pair("scheduler3", order([0, 2, 1], "scheduler3_wrong_order"), "different", "different")
-    pair(ring(3, 2).save("scheduler3_two_tokens"), "scheduler3_order", "different", "different")
+    pair(ring(family, 3, 2).save("scheduler3_two_tokens"), "scheduler3_order", "different", "different")
 
     service = order(range(8), "scheduler8_order")
     for count in (4, 8):
-        system = ring_first_chosen(count).save(f"scheduler{count}_first_chosen")
+        system = ring_first_chosen(family, count).save(f"scheduler{count}_first_chosen")
         pair(system, f"scheduler{count}_order", "different", "equal", explicit=count < 8)
-    refused("scheduler8", ring(8, 1), service, 33)
+    refused("scheduler8", ring(family, 8, 1), service, 33)
     family.finish()
 
 
@@ -604,6 +607,7 @@ def joined_leaves():
         return model
 
     one = joined(1).save("joined1")
+    pair(joined(3).save("joined3"), one, "equal", "equal")
     pair(joined(MAX_BITS).save(f"joined{MAX_BITS}"), one, "equal", "equal", explicit=False)
     refused(f"joined{MAX_BITS + 1}", joined(MAX_BITS + 1), one, MAX_BITS)
     family.finish()

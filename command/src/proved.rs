@@ -1,4 +1,4 @@
-//! The calls of the proved library. Every answer about a model comes from here.
+//! The calls of the proved library. Every answer about a model comes from here; that a listing misses no step is tested, not proved.
 
 use crate::outcome::{fail, grouped, Failure};
 use seipolku::{model, Fault, Mode, Refusal, Root, Side, Table, TableError, MAX_TABLE};

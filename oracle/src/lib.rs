@@ -1,5 +1,4 @@
-//! An explicit-state program for comparing models, written from document 01, as document 02's
-//! point 1 changed it, alone.
+//! An explicit-state program for comparing models, written from document 01 and document 02's point 1 alone.
 //!
 //! The verdict comes from an iteration over explicit pairs of states (`bisim`).
 //! The node count comes from evaluating the list of functions (`list`).

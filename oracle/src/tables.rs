@@ -26,8 +26,19 @@ const CODES: u64 = codes(MAX_BITS);
 const FORMER_CODES: u64 = codes(FORMER_BITS);
 const LAST_LEVEL: u8 = last_level(MAX_BITS);
 const FORMER_LAST_LEVEL: u8 = last_level(FORMER_BITS);
-const EDGE_LEVELS: [u8; 8] =
-    [FORMER_LAST_LEVEL, FORMER_LAST_LEVEL + 1, 127, 128, LAST_LEVEL, LAST_LEVEL + 1, 254, 255];
+/// The level of the constants, and the largest of 7 bits.
+const CONSTANTS: u8 = 255;
+const SEVEN_BITS: u8 = 127;
+const EDGE_LEVELS: [u8; 8] = [
+    FORMER_LAST_LEVEL,
+    FORMER_LAST_LEVEL + 1,
+    SEVEN_BITS,
+    SEVEN_BITS + 1,
+    LAST_LEVEL,
+    LAST_LEVEL + 1,
+    CONSTANTS - 1,
+    CONSTANTS,
+];
 const LEVELS: usize = LAST_LEVEL as usize + 1;
 
 impl Table {

@@ -40,7 +40,7 @@ impl<'t> Steps<'t> {
         }
     }
 
-    /// Over nodes whose bit is fixed, to one whose bit is chosen or to a constant. A child's number is smaller than its node's.
+    /// Over nodes whose bit is fixed, to one whose bit is chosen or to a constant. Levels rise from node to child.
     fn forward(&self, mut entry: u32) -> u32 {
         while let Some((level, [low, high])) = self.table.node(entry) {
             if self.rank(level).is_some() {

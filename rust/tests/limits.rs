@@ -79,7 +79,7 @@ fn verdicts_within() {
     }
 }
 
-/// Four leaves of 64 states; the count is that of ../shared/vectors/requests.tsv.
+/// Four leaves of 64 states; the count is that of `24 bits nil right` in tests/requests.tsv.
 #[test]
 fn wide_leaves() {
     let still = b"000140\n01020000\n02020101\n";

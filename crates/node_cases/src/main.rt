@@ -85,22 +85,26 @@ fn numbers() {
 
 // A code in each of the four places, from a root.
 fn each_place(name: &[u8], root: u64, code: u64) {
+    io::write_all(1, b"left now ");
     good(name, root, 0, code, 0, 0, 0);
+    io::write_all(1, b"left next ");
     good(name, root, 0, 0, code, 0, 0);
+    io::write_all(1, b"right now ");
     good(name, root, 0, 0, 0, code, 0);
+    io::write_all(1, b"right next ");
     good(name, root, 0, 0, 0, 0, code);
 }
 
 fn codes() {
-    each_place(b"code 2^20, entry 0", 0, 1048576);
-    each_place(b"code 2^20, entry 1", 1, 1048576);
-    each_place(b"code 2^20, entry 2", 2, 1048576);
-    each_place(b"code 2^24 - 1, entry 0", 0, 16777215);
-    each_place(b"code 2^24 - 1, entry 1", 1, 16777215);
-    each_place(b"code 2^24 - 1, entry 2", 2, 16777215);
-    each_place(b"code 2^24, entry 0", 0, 16777216);
-    each_place(b"code 2^24, entry 1", 1, 16777216);
-    each_place(b"code 2^24, entry 2", 2, 16777216);
+    each_place(b"2^20, entry 0", 0, 1048576);
+    each_place(b"2^20, entry 1", 1, 1048576);
+    each_place(b"2^20, entry 2", 2, 1048576);
+    each_place(b"2^24 - 1, entry 0", 0, 16777215);
+    each_place(b"2^24 - 1, entry 1", 1, 16777215);
+    each_place(b"2^24 - 1, entry 2", 2, 16777215);
+    each_place(b"2^24, entry 0", 0, 16777216);
+    each_place(b"2^24, entry 1", 1, 16777216);
+    each_place(b"2^24, entry 2", 2, 16777216);
 }
 
 fn levels() {
@@ -133,6 +137,15 @@ fn levels() {
 fn last_levels() {
     at_level(b"level 120, left now 2^19", 120, 0, 524288, 0, 0, 0);
     at_level(b"level 124, right next 2^19", 124, 0, 0, 0, 0, 524288);
+    at_level(
+        b"level 125, a middle bit",
+        125,
+        63,
+        16777215,
+        16777215,
+        16777215,
+        16777215,
+    );
     at_level(b"level 126, left now 2^20", 126, 0, 1048576, 0, 0, 0);
     at_level(b"level 126, left now 2^20 - 1", 126, 0, 1048575, 0, 0, 0);
     at_level(b"level 144, left now 2^23", 144, 0, 8388608, 0, 0, 0);
