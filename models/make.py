@@ -546,21 +546,30 @@ def chain(model, lines, count):
     return lines[count]
 
 
-def journal_of_cells(model, cell, k, drop):
-    """The write cell and k - 1 further cells, the last of which hands over to the drive."""
+def row_of_cells(model, cell, count):
+    return chain(model, {1: cell}, count)
+
+
+def counting_leaf(model, cell, count):
+    """One leaf in the place of the row: moves are alike, so that their number tells all."""
+    return model.leaf("flushed moves", counter(count, "in?", "out!"))
+
+
+def journal_of_cells(model, cell, k, drop, row):
+    """The write cell and a row of k - 1 further cells, the last of which hands over to the drive."""
     if k == 1:
         return model.leaf("write cell", write_cell(drop, "go!"))
     write = model.leaf("write cell", write_cell(drop, "hand!"))
-    cells = model.relabel(chain(model, {1: cell}, k - 1), **{"in": "hand", "out": "go"})
+    cells = model.relabel(row(model, cell, k - 1), **{"in": "hand", "out": "go"})
     return model.restrict(model.compose(write, cells), ["hand"])
 
 
-def station_of_cells(family, k, drop):
+def station_of_cells(family, k, drop, row=row_of_cells):
     """While the supply is not on, nothing is flushed, handed to the drive, carried out or done."""
     model = Model(family)
     cell = model.leaf("one-place cell", [("empty", "in?", "full"), ("full", "out!", "empty")])
     link = model.relabel(cell, **{"in": "move", "out": "log"})
-    journal = journal_of_cells(model, cell, k, drop)
+    journal = journal_of_cells(model, cell, k, drop, row)
     drive = model.leaf("drive", [("idle", "go!", "moving"), ("moving", "arrive!", "arrived"),
                                  ("arrived", "done!", "idle")])
     powered = ["flush", "go", "arrive", "done"]
@@ -591,6 +600,13 @@ def shuttle_of_cells(family):
         pair(*stations[k], "different", "different")
     above = station_of_cells(family, largest + 1, "survives")
     refused(f"shuttle{largest + 1}_cells", above, f"shuttle{largest}_service", 37)
+
+    def counted(k, drop, ending):
+        return station_of_cells(family, k, drop, counting_leaf).save(f"shuttle{k}_counted{ending}")
+
+    pair(counted(3, "survives", ""), "shuttle3_cells", "different", "equal")
+    pair(counted(16, "survives", ""), "shuttle16_service", "different", "equal")
+    pair(counted(16, "loses", "_faulty"), "shuttle16_service", "different", "different")
 
 
 # Copies of one leaf that step together: one bit each.
