@@ -59,7 +59,8 @@ reachable or not.
 
   --mode strong|weak   Default: weak.
   --reachable          only states that can be reached from the starts.
-  --most N             the most pairs to ask for. Default: 1,000,000; at most 1,000,000,000, of which 10,000,000 are listed.
+  --most N             the most pairs to ask for, and with --reachable the most states of each model. Default: 1,000,000; at most
+                       1,000,000,000, of which 10,000,000 are listed.
   --limit N, --nodes N, --by-number as for compare.
 
 Exit status: 0 equal, 1 different, 2 refused by the library; 3 as for compare, or too large to list.

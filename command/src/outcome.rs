@@ -107,3 +107,12 @@ pub fn grouped(number: u64) -> String {
     }
     spelled
 }
+
+/// A sentence with a capital letter in front.
+pub fn capital(sentence: &str) -> String {
+    let mut letters = sentence.chars();
+    match letters.next() {
+        Some(first) => first.to_uppercase().collect::<String>() + letters.as_str(),
+        None => String::new(),
+    }
+}
