@@ -2,7 +2,8 @@
 
 pub const GENERAL: &str = "\
 seipolku: whether two models of a system behave the same, by strong and by weak bisimilarity.
-All answers about models come from a library whose code is proved.
+Verdicts, refusals and every step and pair that is listed come from a library whose code is proved; that a listing misses no
+step is tested.
 
   seipolku compare LEFT RIGHT    verdict, rounds, nodes and time
   seipolku pairs LEFT RIGHT      the largest bisimulation, pair by pair
@@ -22,7 +23,8 @@ a file that it reads. In messages, lines and columns of a file are counted from 
 0, as in --line K.
 
 Exit status: 0 done, or the models are equal; 1 they are different; 2 the library refuses a model or a comparison; 3 wrong words or
-files: nothing was asked of the library.
+files, name tables that disagree, a text that is older than its source, or a model that is too large to list: nothing was asked of the
+library, or its answer is not printed.
 ";
 
 const COMPARE: &str = "\

@@ -1,4 +1,5 @@
-//! The calls of the proved library. Every answer about a model comes from here; that a listing misses no step is tested, not proved.
+//! The calls of the proved library. Verdicts, refusals and every step and pair that is listed come from here; that a listing misses no
+//! step is tested, not proved.
 
 use crate::outcome::{fail, grouped, Failure};
 use seipolku::{model, Fault, Mode, Refusal, Root, Side, Table, TableError, MAX_TABLE};
