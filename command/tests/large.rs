@@ -2,7 +2,7 @@
 
 mod common;
 
-use common::{Folder, Ran};
+use common::{digits, Folder, Ran, Random};
 use seipolku::{CODES, MAX_BITS};
 use std::time::{Duration, Instant};
 
@@ -35,6 +35,19 @@ fn rings(uses: u32) -> String {
 fn fans(uses: u32) -> String {
     let fan: String = (0..64).map(|s| format!("0002{s:02X}")).collect();
     chain(&format!("000140{fan}"), uses, "06", "01")
+}
+
+/// Leaves of 8 states with many steps that were drawn, composed: these alone need more nodes than the largest table holds.
+fn tangled() -> String {
+    let mut random = Random(8);
+    let leaves = MAX_BITS as u8 / 3;
+    let mut leaf = |number: u8| {
+        let mut step = |_| [random.below(8) as u8, 2 + random.below(62) as u8, random.below(8) as u8];
+        digits(&[vec![number, 1, 8], (0..84).flat_map(&mut step).collect()].concat()) + "\n"
+    };
+    let lines: String = (0..leaves).map(&mut leaf).collect();
+    let both = |k: u8| digits(&[leaves + k - 1, 2, if k == 1 { 0 } else { leaves + k - 2 }, k]) + "\n";
+    lines + &(1..leaves).map(both).collect::<String>()
 }
 
 fn folder() -> Folder {
@@ -143,6 +156,23 @@ fn too_large_to_list() {
     fails(&folder, &rings, &format!("{pairs}1,000,000. List the reachable ones with --reachable"));
     let advice = "make the models smaller: no --most allows more than 1,000,000,000.";
     fails(&folder, &[&rings[..], &["--most", "281474976710656"]].concat(), advice);
+}
+
+/// One model whose steps no table holds, though a part of it can be listed.
+#[test]
+fn too_many_nodes_to_list() {
+    let folder = Folder::new();
+    folder.write("tangled.hex", tangled());
+    let refusal = "tangled.hex: refusal 8: listing the model's steps needs more nodes than fit into a table of 1,048,576 entries, and \
+                   none is larger. What to do: take a part of the model with --line K.\n";
+    for words in [&["steps"][..], &["steps", "--all"], &["to-aut"], &["show", "--dot"]] {
+        let ran = quick(&folder, &[words, &["tangled.hex"]].concat());
+        let expected = format!("seipolku: {refusal}");
+        assert_eq!((ran.status, ran.out.as_str(), ran.err), (2, "", expected), "{words:?}");
+    }
+    let ran = quick(&folder, &["steps", "tangled.hex", "--line", "14"]);
+    assert_eq!(ran.err, format!("seipolku: line 14 of {refusal}"));
+    assert!(folder.done(&["steps", "tangled.hex", "--line", "8"]).starts_with("64 reachable states, "));
 }
 
 /// A verdict other than "equal" comes before any listing.
