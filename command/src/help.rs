@@ -82,6 +82,9 @@ Lists the states that can be reached from the start and their steps, which the o
   --line K   the process of line K in place of the last one.
   --most N   the most states. Default: 1,000. A larger model is not listed at all, nor one with more than 10,000,000 states and steps.
 
+Exit status: 0 done; 2 the library refuses the model, or its steps need a larger table than there is; 3 wrong words or files, a text
+that is older than its source, or a model that is too large to list.
+
 Examples:
   seipolku steps models/shuttle_one.hex
   seipolku steps models/shuttle_one.hex --line 0 --all
@@ -96,7 +99,11 @@ hide a in P, P |[a]| Q joint.
   --line K   the model up to line K.
   --dot      a picture for Graphviz: of the reachable part of the model, or of a leaf with all its states if the last line is one.
              Outputs are written a!, inputs a?; internal steps are dashed.
-  --most N   the most states in a picture. Default: 1,000.
+  --most N   the most states in a picture. Default: 1,000. There is no picture of a larger model, nor of one with more than 10,000,000
+             states and steps.
+
+Exit status: 0 done; 2 the library refuses the model, or its steps need a larger table than there is; 3 wrong words or files, a text
+that is older than its source, or a model that is too large for a picture.
 
 Examples:
   seipolku show models/shuttle_one.hex
@@ -140,9 +147,13 @@ Writes the part of a model that can be reached from its start as an Aldebaran fi
 one leaf that came from an .aut file get their old numbers back. from-aut reads it back, up to 64 states and 84 transitions.
 
   --line K    the process of line K in place of the last one.
-  --most N    the most states. Default: 1,000.
+  --most N    the most states. Default: 1,000. Nothing is written of a larger model, nor of one with more than 10,000,000 states and
+              steps.
   --tau       write internal steps as tau in place of i.
   --out FILE  write to a file, not to standard output.
+
+Exit status: 0 done; 2 the library refuses the model, or its steps need a larger table than there is; 3 wrong words or files, a text
+that is older than its source, or a model that is too large to list.
 
 Examples:
   seipolku to-aut models/shuttle_one.hex
