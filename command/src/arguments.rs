@@ -1,7 +1,7 @@
 //! The words of the command line: files, options with a value, flags.
 
 use crate::frames::MOST_LINES;
-use crate::outcome::{fail, grouped, Failure};
+use crate::outcome::{capital, fail, grouped, Failure};
 use crate::proved::ENTRIES;
 use std::ffi::{OsStr, OsString};
 use std::path::{Path, PathBuf};
@@ -129,12 +129,4 @@ fn range(option: &str) -> String {
 
 fn see_help(command: &str) -> String {
     format!("'seipolku {command} --help' shows how it is used")
-}
-
-fn capital(sentence: &str) -> String {
-    let mut letters = sentence.chars();
-    match letters.next() {
-        Some(first) => first.to_uppercase().collect::<String>() + letters.as_str(),
-        None => String::new(),
-    }
 }

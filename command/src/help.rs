@@ -2,7 +2,8 @@
 
 pub const GENERAL: &str = "\
 seipolku: whether two models of a system behave the same, by strong and by weak bisimilarity.
-All answers about models come from a library whose code is proved.
+Verdicts, refusals and every step and pair that is listed come from a library whose code is proved; that a listing misses no
+step is tested.
 
   seipolku compare LEFT RIGHT    verdict, rounds, nodes and time
   seipolku pairs LEFT RIGHT      the largest bisimulation, pair by pair
@@ -22,7 +23,8 @@ a file that it reads. In messages, lines and columns of a file are counted from 
 0, as in --line K.
 
 Exit status: 0 done, or the models are equal; 1 they are different; 2 the library refuses a model or a comparison; 3 wrong words or
-files: nothing was asked of the library.
+files, name tables that disagree, a text that is older than its source, or a model that is too large to list: nothing was asked of the
+library, or its answer is not printed.
 ";
 
 const COMPARE: &str = "\
@@ -59,7 +61,8 @@ reachable or not.
 
   --mode strong|weak   Default: weak.
   --reachable          only states that can be reached from the starts.
-  --most N             the most pairs to ask for. Default: 1,000,000; at most 1,000,000,000, of which 10,000,000 are listed.
+  --most N             the most pairs to ask for, and with --reachable the most states of each model. Default: 1,000,000; at most
+                       1,000,000,000, of which 10,000,000 are listed.
   --limit N, --nodes N, --by-number as for compare.
 
 Exit status: 0 equal, 1 different, 2 refused by the library; 3 as for compare, or too large to list.
@@ -79,6 +82,9 @@ Lists the states that can be reached from the start and their steps, which the o
   --line K   the process of line K in place of the last one.
   --most N   the most states. Default: 1,000. A larger model is not listed at all, nor one with more than 10,000,000 states and steps.
 
+Exit status: 0 done; 2 the library refuses the model, or its steps need a larger table than there is; 3 wrong words or files, a text
+that is older than its source, or a model that is too large to list.
+
 Examples:
   seipolku steps models/shuttle_one.hex
   seipolku steps models/shuttle_one.hex --line 0 --all
@@ -93,7 +99,11 @@ hide a in P, P |[a]| Q joint.
   --line K   the model up to line K.
   --dot      a picture for Graphviz: of the reachable part of the model, or of a leaf with all its states if the last line is one.
              Outputs are written a!, inputs a?; internal steps are dashed.
-  --most N   the most states in a picture. Default: 1,000.
+  --most N   the most states in a picture. Default: 1,000. There is no picture of a larger model, nor of one with more than 10,000,000
+             states and steps.
+
+Exit status: 0 done; 2 the library refuses the model, or its steps need a larger table than there is; 3 wrong words or files, a text
+that is older than its source, or a model that is too large for a picture.
 
 Examples:
   seipolku show models/shuttle_one.hex
@@ -137,9 +147,13 @@ Writes the part of a model that can be reached from its start as an Aldebaran fi
 one leaf that came from an .aut file get their old numbers back. from-aut reads it back, up to 64 states and 84 transitions.
 
   --line K    the process of line K in place of the last one.
-  --most N    the most states. Default: 1,000.
+  --most N    the most states. Default: 1,000. Nothing is written of a larger model, nor of one with more than 10,000,000 states and
+              steps.
   --tau       write internal steps as tau in place of i.
   --out FILE  write to a file, not to standard output.
+
+Exit status: 0 done; 2 the library refuses the model, or its steps need a larger table than there is; 3 wrong words or files, a text
+that is older than its source, or a model that is too large to list.
 
 Examples:
   seipolku to-aut models/shuttle_one.hex

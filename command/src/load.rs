@@ -13,6 +13,8 @@ pub struct Loaded {
     pub path: PathBuf,
     pub text: Vec<u8>,
     pub model: Model,
+    /// The line that the model ends at, if one was asked for.
+    pub line: Option<u64>,
     /// The name table beside the text, if there is one.
     pub table: Option<Names>,
     /// Names for everything in the model.
@@ -53,7 +55,7 @@ fn of_accepted(path: &Path, text: Vec<u8>, other: Option<&Path>) -> Result<Loade
         Checked { path, text: &text, names }.fresh(other)?;
     }
     let names = table.clone().unwrap_or_default().completed(&model);
-    Ok(Loaded { path: path.to_path_buf(), text, model, table, names })
+    Ok(Loaded { path: path.to_path_buf(), text, model, line: None, table, names })
 }
 
 pub fn decoded(path: &Path, text: &[u8]) -> Result<Model, Failure> {
@@ -84,9 +86,15 @@ impl Loaded {
         all
     }
 
+    /// The model by its file and line.
+    pub fn called(&self) -> String {
+        let file = self.path.display();
+        self.line.map_or_else(|| file.to_string(), |line| format!("line {line} of {file}"))
+    }
+
     /// The model that ends at a line, or the whole.
-    pub fn up_to(self, line: Option<u64>) -> Result<Loaded, Failure> {
-        let Some(line) = line else { return Ok(self) };
+    pub fn up_to(self, asked: Option<u64>) -> Result<Loaded, Failure> {
+        let Some(line) = asked else { return Ok(self) };
         let last = self.model.frames.len() - 1;
         if line > last as u64 {
             return fail(format!(
@@ -96,6 +104,6 @@ impl Loaded {
         }
         let model = self.model.up_to(line as usize);
         let text = model.encode().into_bytes();
-        Ok(Loaded { model, text, ..self })
+        Ok(Loaded { model, text, line: asked, ..self })
     }
 }

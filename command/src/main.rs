@@ -1,4 +1,5 @@
-//! The command for designers. It parses, prints and lends memory; all answers about models come from the proved library.
+//! The command for designers. It parses, prints and lends memory; verdicts, refusals and every step and pair that is listed come from
+//! the proved library. That a listing misses no step is tested, not proved.
 
 mod arguments;
 mod assemble;

@@ -6,7 +6,7 @@ pub const EQUAL: u8 = 0;
 pub const DIFFERENT: u8 = 1;
 /// The library refuses a model or a comparison.
 pub const REFUSED: u8 = 2;
-/// The library is not asked: wrong words or files.
+/// Wrong words or files, or too large to list: the library is not asked, or its answer is not printed.
 pub const FAILED: u8 = 3;
 
 /// Text for standard output, remarks for standard error, and the exit status.
@@ -106,4 +106,13 @@ pub fn grouped(number: u64) -> String {
         spelled.push(digit);
     }
     spelled
+}
+
+/// A sentence with a capital letter in front.
+pub fn capital(sentence: &str) -> String {
+    let mut letters = sentence.chars();
+    match letters.next() {
+        Some(first) => first.to_uppercase().collect::<String>() + letters.as_str(),
+        None => String::new(),
+    }
 }

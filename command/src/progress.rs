@@ -1,6 +1,5 @@
 //! Elapsed time on a terminal while calls of the library run.
 
-use seipolku::LAST_LEVEL;
 use std::io::{IsTerminal, Write};
 use std::sync::mpsc;
 use std::thread;
@@ -8,40 +7,31 @@ use std::time::{Duration, Instant};
 
 const FIRST: Duration = Duration::from_millis(500);
 const EACH: Duration = Duration::from_millis(200);
-/// More than the library's recursion over the levels takes: 128 KiB a level.
-const STACK: usize = (LAST_LEVEL as usize + 1) << 17;
 
 /// Runs the call, and says the time that it took. Its table belongs to the call while it runs, so that only the time is shown.
-pub fn timed<T: Send>(what: &str, show: bool, call: impl FnMut() -> T + Send) -> (T, Duration) {
+pub fn timed<T>(what: &str, show: bool, call: impl FnOnce() -> T) -> (T, Duration) {
     let start = Instant::now();
-    let mut call = call;
-    let result = if show && std::io::stderr().is_terminal() { watched(what, start, &mut call) } else { None };
-    let result = result.unwrap_or_else(call);
-    (result, start.elapsed())
+    if !show || !std::io::stderr().is_terminal() {
+        return (call(), start.elapsed());
+    }
+    thread::scope(|scope| {
+        let (running, ended) = mpsc::channel();
+        // Where no second thread is to be had, nothing is shown.
+        let _ = thread::Builder::new().spawn_scoped(scope, move || watch(what, start, &ended));
+        let result = call();
+        drop(running);
+        (result, start.elapsed())
+    })
 }
 
-/// Runs the call on a second thread; nothing if there is none to be had.
-fn watched<T: Send>(what: &str, start: Instant, call: &mut (impl FnMut() -> T + Send)) -> Option<T> {
-    let (send, receive) = mpsc::channel();
-    thread::scope(|scope| {
-        let job = move || {
-            // The receiver waits until it has the result.
-            let _ = send.send(call());
-        };
-        thread::Builder::new().stack_size(STACK).spawn_scoped(scope, job).ok()?;
-        let mut wait = FIRST;
-        loop {
-            match receive.recv_timeout(wait) {
-                Ok(result) => {
-                    clear(wait != FIRST);
-                    return Some(result);
-                }
-                Err(mpsc::RecvTimeoutError::Timeout) => show(what, start.elapsed()),
-                Err(mpsc::RecvTimeoutError::Disconnected) => return None,
-            }
-            wait = EACH;
-        }
-    })
+/// Shows the time until the sender is dropped.
+fn watch(what: &str, start: Instant, ended: &mpsc::Receiver<()>) {
+    let mut wait = FIRST;
+    while ended.recv_timeout(wait) == Err(mpsc::RecvTimeoutError::Timeout) {
+        show(what, start.elapsed());
+        wait = EACH;
+    }
+    clear(wait != FIRST);
 }
 
 fn show(what: &str, elapsed: Duration) {

@@ -1,7 +1,8 @@
-//! The calls of the proved library. Every answer about a model comes from here; that a listing misses no step is tested, not proved.
+//! The calls of the proved library. Verdicts, refusals and every step and pair that is listed come from here; that a listing misses no
+//! step is tested, not proved.
 
 use crate::outcome::{fail, grouped, Failure};
-use seipolku::{model, Fault, Mode, Refusal, Root, Side, Table, TableError, MAX_TABLE};
+use seipolku::{model, Fault, Mode, Model, Refusal, Root, Side, Table, TableError, MAX_TABLE};
 
 pub const LIMIT: u64 = 1_000_000;
 pub const ENTRIES: u64 = MAX_TABLE as u64;
@@ -55,20 +56,20 @@ pub fn refusal(text: &[u8]) -> Option<Refusal> {
 /// The derived steps of a model, as the library shows them.
 pub struct Relation<'t> {
     shown: seipolku::Verdict<'t>,
-    bits: u64,
+    model: Model,
 }
 
 impl<'t> Relation<'t> {
     /// Compares with a model that has no steps, which needs few nodes beside the relation.
     pub fn of(text: &[u8], table: &'t mut Lent) -> Result<Relation<'t>, Refusal> {
-        let bits = model(text)?.bits;
-        Ok(Relation { shown: table.get()?.compare(text, IDLE, Mode::Strong, LIMIT)?, bits })
+        let model = model(text)?;
+        Ok(Relation { shown: table.get()?.compare(text, IDLE, Mode::Strong, LIMIT)?, model })
     }
 
     /// The steps from a state, by action and next code, or so many of them. They are found in the table, and the library confirms each one.
     pub fn steps(&self, now: u64, most: usize) -> Result<Vec<(u8, u64)>, Failure> {
         let mut steps = Vec::new();
-        for (action, next) in self.shown.left_steps_from(now, self.bits).map_err(unexpected)?.take(most) {
+        for (action, next) in self.shown.left_steps_from(now, &self.model).map_err(unexpected)?.take(most) {
             if !look_up(self.shown.left, action, [now, next, 0, 0])? {
                 return fail("a step that was found does not hold; please report this with the model.");
             }

@@ -108,17 +108,25 @@ fn table_advice(refusal: &Refusal, entries: u64) -> &'static str {
     what_to_do(refusal)
 }
 
-/// The refusal of one text, several lines long.
+/// The refusal where the steps of one accepted model are listed. `smaller` says what helps where the largest table is full.
+pub fn of_steps(refusal: &Refusal, model: &str, smaller: &str) -> String {
+    let number = refusal.fault.number();
+    let (rule, advice) = match number {
+        8 => {
+            let entries = grouped(MAX_TABLE as u64);
+            let rule = format!(
+                "listing the model's steps needs more nodes than fit into a table of {entries} entries, and none is larger"
+            );
+            (rule, smaller)
+        }
+        _ => (rule(refusal), what_to_do(refusal)),
+    };
+    format!("{model}: refusal {number}: {rule}. What to do: {advice}.")
+}
+
+/// The refusal of one text, which is that of a line, several lines long.
 pub fn of_text(refusal: &Refusal, file: &Path, text: &[u8]) -> String {
     let number = refusal.fault.number();
-    if refusal.side == Side::Neither {
-        return format!(
-            "{}: refusal {number}: {}. What to do: {}.",
-            file.display(),
-            rule(refusal),
-            table_advice(refusal, MAX_TABLE as u64)
-        );
-    }
     let column = offending(refusal, text).and_then(|(_, found)| found).map_or(1, |found| found.column + 1);
     format!(
         "{}, line {}, column {column}: refusal {number}, line {} of the model (counted from 0): {}.\n{}What to do: {}.",

@@ -2,7 +2,7 @@
 
 mod common;
 
-use common::{Folder, Ran};
+use common::{digits, Folder, Ran, Random};
 use seipolku::{CODES, MAX_BITS};
 use std::time::{Duration, Instant};
 
@@ -35,6 +35,19 @@ fn rings(uses: u32) -> String {
 fn fans(uses: u32) -> String {
     let fan: String = (0..64).map(|s| format!("0002{s:02X}")).collect();
     chain(&format!("000140{fan}"), uses, "06", "01")
+}
+
+/// Leaves of 8 states with many steps that were drawn, composed: these alone need more nodes than the largest table holds.
+fn tangled() -> String {
+    let mut random = Random(8);
+    let leaves = MAX_BITS as u8 / 3;
+    let mut leaf = |number: u8| {
+        let mut step = |_| [random.below(8) as u8, 2 + random.below(62) as u8, random.below(8) as u8];
+        digits(&[vec![number, 1, 8], (0..84).flat_map(&mut step).collect()].concat()) + "\n"
+    };
+    let lines: String = (0..leaves).map(&mut leaf).collect();
+    let both = |k: u8| digits(&[leaves + k - 1, 2, if k == 1 { 0 } else { leaves + k - 2 }, k]) + "\n";
+    lines + &(1..leaves).map(both).collect::<String>()
 }
 
 fn folder() -> Folder {
@@ -125,7 +138,7 @@ fn too_large_to_list() {
     let folder = folder();
     let reachable =
         "has more than 1,000 reachable states, too many to list. Allow more with --most N, or take";
-    let whatever = "has more than 10,000,000 states and steps, too many to list with any --most. List a part of it with 'seipolku steps";
+    let whatever = "has more than 10,000,000 states and steps, too many to list with any --most. Take a part of the model with --line K.";
     for file in [&format!("composed{MAX_BITS}.hex"), "rings.hex", "fans.hex"] {
         for words in [&["steps", file][..], &["to-aut", file], &["show", file, "--dot"]] {
             fails(&folder, words, reachable);
@@ -145,10 +158,67 @@ fn too_large_to_list() {
     fails(&folder, &[&rings[..], &["--most", "281474976710656"]].concat(), advice);
 }
 
+/// One model whose steps no table holds, though a part of it can be listed.
+#[test]
+fn too_many_nodes_to_list() {
+    let folder = Folder::new();
+    folder.write("tangled.hex", tangled());
+    let refusal = "tangled.hex: refusal 8: listing the model's steps needs more nodes than fit into a table of 1,048,576 entries, and \
+                   none is larger. What to do: take a part of the model with --line K.\n";
+    for words in [&["steps"][..], &["steps", "--all"], &["to-aut"], &["show", "--dot"]] {
+        let ran = quick(&folder, &[words, &["tangled.hex"]].concat());
+        let expected = format!("seipolku: {refusal}");
+        assert_eq!((ran.status, ran.out.as_str(), ran.err), (2, "", expected), "{words:?}");
+    }
+    let ran = quick(&folder, &["steps", "tangled.hex", "--line", "14"]);
+    assert_eq!(ran.err, format!("seipolku: line 14 of {refusal}"));
+    assert!(folder.done(&["steps", "tangled.hex", "--line", "8"]).starts_with("64 reachable states, "));
+}
+
+/// A verdict other than "equal" comes before any listing.
+#[test]
+fn pairs_compare_first() {
+    let folder = folder();
+    let composed = format!("composed{MAX_BITS}.hex");
+    for reachable in [&[][..], &["--reachable"]] {
+        let ran =
+            quick(&folder, &[&["pairs", "joined1.hex", &composed, "--mode", "strong"], reachable].concat());
+        assert_eq!((ran.status, ran.err.as_str()), (1, ""), "{}", ran.out);
+        assert!(ran.out.starts_with("strong different ("), "{}", ran.out);
+        let ran = quick(&folder, &[&["pairs", &composed, &composed], reachable].concat());
+        assert_eq!((ran.status, ran.err.as_str()), (2, ""), "{}", ran.out);
+        assert!(ran.out.starts_with("Refusal 8: "), "{}", ran.out);
+    }
+}
+
+/// What is too large for `pairs`, and the advice that is true for it.
+#[test]
+fn too_many_pairs() {
+    let folder = folder();
+    let rings = ["pairs", "rings.hex", "rings.hex", "--reachable", "--most", "100"];
+    let advice = "Allow more with --most N, or make the models smaller.\n";
+    fails(
+        &folder,
+        &rings,
+        &format!("rings.hex has more than 100 reachable states, too many to list. {advice}"),
+    );
+    let joined = format!("joined{MAX_BITS}.hex");
+    let few = ["pairs", &joined, &joined, "--reachable", "--most", "3"];
+    let limit = "too many to list; the limit is 3. Allow more with --most N.\n";
+    fails(&folder, &few, &format!("the models have 4 pairs of reachable states, {limit}"));
+    let all = ["pairs", &joined, &joined, "--most", &u64::MAX.to_string()];
+    fails(&folder, &all, "the limit is 1,000,000,000. List the reachable ones with --reachable, or make the models smaller: no");
+}
+
 /// A part of a model that is too large, and a part of a listing that is not.
 #[test]
 fn parts_are_listed() {
     let folder = folder();
+    fails(
+        &folder,
+        &["steps", "rings.hex", "--line", "2"],
+        ": line 2 of rings.hex has more than 1,000 reachable states",
+    );
     let ran = quick(&folder, &["steps", "rings.hex", "--line", "1", "--most", "4096"]);
     assert!(
         ran.out.starts_with("4,096 reachable states, 8,192 steps\n"),

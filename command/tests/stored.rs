@@ -68,6 +68,12 @@ fn helps() {
         assert!(ran.out.contains("Example"), "{command}: no example");
         assert!(ran.out.contains(&format!("seipolku {command} ")), "{command}");
         assert_eq!(ran.out, run(&["help", command]).out);
+        if ["steps", "show", "to-aut"].contains(&command) {
+            assert!(
+                ran.out.contains("10,000,000") && ran.out.contains("Exit status: 0 done; 2 "),
+                "{command}"
+            );
+        }
     }
     assert_eq!(run(&["--help"]).status, 0);
 }

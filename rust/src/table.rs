@@ -4,7 +4,8 @@ use std::alloc::{alloc_zeroed, Layout};
 use std::fmt;
 
 use crate::ffi;
-use crate::limits::{CODES, MAX_BITS};
+use crate::limits::MAX_BITS;
+use crate::model::Model;
 use crate::refusal::{Fault, Refusal, Side};
 use crate::steps::Steps;
 
@@ -249,10 +250,10 @@ impl<'t> Root<'t> {
         }
     }
 
-    /// The steps from a state that a relation holds; the slot is the one of the model's now code.
-    fn steps(&self, slot: u32, now: u64, bits: u64) -> Result<Steps<'t>, Refusal> {
-        match (u32::try_from(bits), u32::try_from(self.entry)) {
-            (Ok(bits), Ok(root)) if bits <= MAX_BITS && now < CODES => {
+    /// The steps from a code that a relation holds; the slot is the one of the model's now code.
+    fn steps(&self, slot: u32, now: u64, model: &Model) -> Result<Steps<'t>, Refusal> {
+        match (u32::try_from(model.bits), u32::try_from(self.entry)) {
+            (Ok(bits), Ok(root)) if bits <= MAX_BITS && now < 1 << bits => {
                 Ok(Steps::new(self.table, root, slot, bits, now))
             }
             _ => Err(refused(Fault::LookUp.number())),
@@ -272,7 +273,7 @@ const RIGHT_NOW: u32 = 3;
 /// A verdict, with the roots of what its table shows.
 #[derive(Clone, Copy, Debug)]
 pub struct Verdict<'t> {
-    /// The relation of the left model: its derived steps.
+    /// The relation of the left model: its derived steps, where the now code is a state's.
     pub left: Root<'t>,
     /// The relation of the right model.
     pub right: Root<'t>,
@@ -287,7 +288,8 @@ impl<'t> Verdict<'t> {
         self.largest.is_some()
     }
 
-    /// Whether the left model has the step with this action from the state `now` to the state `next`.
+    /// Whether the left model has the step with this action from the state `now` to the state `next`: where the now code is a state's,
+    /// as the operators' rules derive it.
     pub fn left_steps(&self, action: u64, now: u64, next: u64) -> Result<bool, Refusal> {
         self.left.look_up(action, [now, next, 0, 0])
     }
@@ -297,24 +299,25 @@ impl<'t> Verdict<'t> {
         self.right.look_up(action, [0, 0, now, next])
     }
 
-    /// All steps of the left model from the state `now`. `bits` are those of the model ([`Model::bits`](crate::Model)). Refused with 10
-    /// where `now` is not below [`CODES`], or the bits are more than [`MAX_BITS`].
+    /// All steps of the left model, which is the one given, from the state `now`, in no order. A code that is no state's, since a leaf
+    /// has fewer states than its bits could tell apart, may have more than the operators' rules derive. Refused with 10 where `now` has
+    /// more bits than the model.
     ///
     /// ```
     /// # use seipolku::{model, Mode, Table};
     /// let text = b"000102000201\n";
     /// let mut table = Table::new(4096).unwrap();
     /// let verdict = table.compare(text, text, Mode::Strong, 9).unwrap();
-    /// let steps: Vec<(u64, u64)> = verdict.left_steps_from(0, model(text).unwrap().bits).unwrap().collect();
+    /// let steps: Vec<(u64, u64)> = verdict.left_steps_from(0, &model(text).unwrap()).unwrap().collect();
     /// assert_eq!(steps, [(2, 1)]);
     /// ```
-    pub fn left_steps_from(&self, now: u64, bits: u64) -> Result<Steps<'t>, Refusal> {
-        self.left.steps(LEFT_NOW, now, bits)
+    pub fn left_steps_from(&self, now: u64, model: &Model) -> Result<Steps<'t>, Refusal> {
+        self.left.steps(LEFT_NOW, now, model)
     }
 
     /// The same of the right model.
-    pub fn right_steps_from(&self, now: u64, bits: u64) -> Result<Steps<'t>, Refusal> {
-        self.right.steps(RIGHT_NOW, now, bits)
+    pub fn right_steps_from(&self, now: u64, model: &Model) -> Result<Steps<'t>, Refusal> {
+        self.right.steps(RIGHT_NOW, now, model)
     }
 
     /// Whether the largest bisimulation holds the pair of states; nothing where the models are different, since the table then shows

@@ -1,6 +1,6 @@
 //! Models and codes at the limits of document 02's point 1.
 
-use seipolku::{model, Fault, Mode, Refusal, Root, Side, Table, CODES, LAST_LEVEL, MAX_BITS};
+use seipolku::{model, Fault, Mode, Model, Refusal, Root, Side, Table, CODES, LAST_LEVEL, MAX_BITS};
 
 const LIMIT: u64 = 1_000_000;
 const ALL_ONES: u64 = CODES - 1;
@@ -124,14 +124,44 @@ fn codes_in_each_place() {
 #[test]
 fn steps_from_a_state() {
     let mut table = Table::new(1 << 16).unwrap();
-    let bits = u64::from(MAX_BITS);
-    let verdict = table.compare(&joined(MAX_BITS), &joined(MAX_BITS), Mode::Strong, LIMIT).unwrap();
+    let text = joined(MAX_BITS);
+    let found = model(&text).unwrap();
+    let verdict = table.compare(&text, &text, Mode::Strong, LIMIT).unwrap();
     for (now, steps) in [(0, vec![(OUT, ALL_ONES)]), (ALL_ONES, vec![(IN, 0)]), (1 << BEFORE, Vec::new())] {
-        assert_eq!(verdict.left_steps_from(now, bits).unwrap().collect::<Vec<_>>(), steps);
-        assert_eq!(verdict.right_steps_from(now, bits).unwrap().collect::<Vec<_>>(), steps);
+        assert_eq!(verdict.left_steps_from(now, &found).unwrap().collect::<Vec<_>>(), steps);
+        assert_eq!(verdict.right_steps_from(now, &found).unwrap().collect::<Vec<_>>(), steps);
     }
-    for (now, bits) in [(CODES, bits), (u64::MAX, bits), (0, bits + 1), (0, u64::MAX)] {
-        assert_eq!(verdict.left_steps_from(now, bits).err().map(|r| r.fault), Some(Fault::LookUp));
+    let of_bits = |bits| Model { bits, ..found.clone() };
+    let most = found.bits;
+    for (now, bits) in [(CODES, most), (u64::MAX, most), (0, most + 1), (0, u64::MAX), (1, 0), (2, 1), (8, 3)]
+    {
+        let both =
+            [verdict.left_steps_from(now, &of_bits(bits)), verdict.right_steps_from(now, &of_bits(bits))];
+        assert_eq!(both.map(|steps| steps.err().map(|r| r.fault)), [Some(Fault::LookUp); 2], "{now} {bits}");
+    }
+}
+
+/// A model of 4 bits, where 3 is no state of either leaf: all codes of these bits are taken, and no others. Code 12 is no state's, and has a
+/// step nevertheless.
+#[test]
+fn codes_of_a_small_model() {
+    let text = b"000103000201\n01020000\n";
+    let found = model(text).unwrap();
+    let mut table = Table::new(1 << 16).unwrap();
+    let verdict = table.compare(text, text, Mode::Strong, LIMIT).unwrap();
+    for (now, steps) in
+        [(0, vec![(OUT, 1), (OUT, 4)]), (4, vec![(OUT, 5)]), (5, vec![]), (12, vec![(OUT, 13)])]
+    {
+        for shown in [verdict.left_steps_from(now, &found), verdict.right_steps_from(now, &found)] {
+            let mut all: Vec<(u64, u64)> = shown.unwrap().collect();
+            all.sort_unstable();
+            assert_eq!(all, steps, "{now}");
+        }
+    }
+    for now in [16, 17, 28, ALL_ONES, CODES] {
+        for shown in [verdict.left_steps_from(now, &found), verdict.right_steps_from(now, &found)] {
+            assert_eq!(shown.unwrap_err().fault, Fault::LookUp, "{now}");
+        }
     }
 }
 
@@ -145,9 +175,9 @@ fn many_steps_from_a_state() {
     };
     let mut table = Table::new(1 << 16).unwrap();
     let large = table.compare(&text(4), b"000101\n", Mode::Strong, LIMIT).unwrap();
-    assert_eq!(large.left_steps_from(0, 24).unwrap().take(1000).count(), 1000);
+    assert_eq!(large.left_steps_from(0, &model(&text(4)).unwrap()).unwrap().take(1000).count(), 1000);
     let small = table.compare(&text(2), b"000101\n", Mode::Strong, LIMIT).unwrap();
-    let mut steps: Vec<(u64, u64)> = small.left_steps_from(0, 12).unwrap().collect();
+    let mut steps: Vec<(u64, u64)> = small.left_steps_from(0, &model(&text(2)).unwrap()).unwrap().collect();
     steps.sort_unstable();
     assert!(steps.into_iter().eq((0..1 << 12).map(|next| (OUT, next))));
 }

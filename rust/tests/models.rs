@@ -127,7 +127,7 @@ fn places_by_look_ups() {
     let mut steps = 0;
     for now in (0..1 << found.bits).filter(|code| found.leaves.iter().all(|l| l.state(*code) < l.states)) {
         let expected = moved(&found, &lines, now);
-        assert_eq!(sorted(verdict.left_steps_from(now, found.bits).unwrap()), expected, "{now}");
+        assert_eq!(sorted(verdict.left_steps_from(now, &found).unwrap()), expected, "{now}");
         for action in 0..64 {
             for next in 0..1 << found.bits {
                 let holds = verdict.left_steps(action, now, next).unwrap();
@@ -154,8 +154,8 @@ fn places_in_the_highest_bits() {
     for state in (0..1 << low.bits).filter(|code| low.leaves.iter().all(|l| l.state(*code) < l.states)) {
         let now = (state << (found.bits - low.bits)) + 0x1_2345;
         let expected = moved(&found, &lines, now);
-        assert_eq!(sorted(left.left_steps_from(now, found.bits).unwrap()), expected, "{now}");
-        assert_eq!(sorted(right.right_steps_from(now, found.bits).unwrap()), expected, "{now}");
+        assert_eq!(sorted(left.left_steps_from(now, &found).unwrap()), expected, "{now}");
+        assert_eq!(sorted(right.right_steps_from(now, &found).unwrap()), expected, "{now}");
         for (action, next) in expected {
             assert_eq!(left.left_steps(action, now, next), Ok(true));
             assert_eq!(right.right_steps(action, now, next), Ok(true));

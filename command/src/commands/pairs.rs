@@ -4,13 +4,15 @@ use crate::arguments::{Form, Given};
 use crate::channels;
 use crate::commands::compare::{modes, word};
 use crate::load::{load_both, Loaded};
-use crate::outcome::{counted, fail, grouped, Answer, Failure, Outcome, Stopped, DIFFERENT, EQUAL, REFUSED};
+use crate::outcome::{
+    capital, counted, fail, grouped, Answer, Failure, Outcome, Stopped, DIFFERENT, EQUAL, REFUSED,
+};
 use crate::progress;
-use crate::proved::{self, Lent, Verdict, ENTRIES, LIMIT};
+use crate::proved::{self, ENTRIES, LIMIT};
 use crate::reach::{self, MOST_LINES};
 use crate::refusals::{self, Call};
 use crate::space::Space;
-use seipolku::{Mode, Refusal, Root};
+use seipolku::{Mode, Root};
 
 pub const FORM: Form = Form {
     command: "pairs",
@@ -24,107 +26,121 @@ const MOST_ASKED: u64 = 1_000_000;
 /// Above this many look-ups, listing takes minutes.
 const MOST_LOOK_UPS: u64 = 1_000_000_000;
 
+/// What helps where no option does.
+const SMALLER: &str = "make the models smaller";
+
+/// Between which states pairs are asked for, and how many at most.
+struct Asked {
+    reachable: bool,
+    most: u64,
+}
+
+impl Asked {
+    fn of(given: &Given) -> Result<Asked, Failure> {
+        let most = given.number("--most")?.unwrap_or(MOST_ASKED);
+        Ok(Asked { reachable: given.flag("--reachable"), most: most.min(MOST_LOOK_UPS) })
+    }
+
+    /// The codes of both sides, if their pairs are not too many.
+    fn codes(&self, models: &[Loaded; 2]) -> Result<[Vec<u64>; 2], Stopped> {
+        let [left, right] = models;
+        if !self.reachable {
+            let spaces = [Space::of(&left.model), Space::of(&right.model)];
+            self.few_enough(spaces[0].states().saturating_mul(spaces[1].states()))?;
+            return Ok(spaces.map(|space| space.all_codes()));
+        }
+        let codes = |model| reach::reachable(model, self.most, SMALLER).map(|listed| listed.codes);
+        let both = [codes(left)?, codes(right)?];
+        self.few_enough(both.iter().map(|codes| codes.len() as u64).product())?;
+        Ok(both)
+    }
+
+    fn few_enough(&self, pairs: u64) -> Result<(), Failure> {
+        if pairs <= self.most {
+            return Ok(());
+        }
+        let reachable = if self.reachable { "reachable " } else { "" };
+        let advice = match pairs > MOST_LOOK_UPS {
+            true => format!("{SMALLER}: no --most allows more than {}", grouped(MOST_LOOK_UPS)),
+            false => "allow more with --most N".to_string(),
+        };
+        fail(format!(
+            "the models have {} of {reachable}states, too many to list; the limit is {}. {}.",
+            counted(pairs, "pair"),
+            grouped(self.most),
+            self.or_reachable(&advice)
+        ))
+    }
+
+    /// An advice, after that to list reachable states only, where this was not asked for.
+    fn or_reachable(&self, advice: &str) -> String {
+        match self.reachable {
+            true => capital(advice),
+            false => format!("List the reachable ones with --reachable, or {advice}"),
+        }
+    }
+}
+
 pub fn run(given: &Given) -> Answer {
     let files = given.two_files()?;
     let mode = modes(given, &[Mode::Weak])?.first().copied().unwrap_or(Mode::Weak);
     let limit = given.number("--limit")?.unwrap_or(LIMIT);
     let entries = given.number("--nodes")?.unwrap_or(ENTRIES);
+    let asked = Asked::of(given)?;
     let models = load_both(files)?;
     let basis = channels::basis(&models, given.flag("--by-number"))?;
-    let (by, notes) = (basis.words(), basis.notes);
-    let codes = codes(given, &models)?;
     let mut table = proved::table(entries)?;
     let texts = [&models[0].text[..], &models[1].text[..]];
-    let call = || judge(&mut table, mode, limit, &models, &codes);
-    let (answer, _) = progress::timed(word(mode), true, call);
-    match answer {
-        Err(refusal) => {
-            let words = refusals::of_comparison(&refusal, &Call { files, texts, entries, limit });
-            Ok(Outcome { text: words, notes, status: REFUSED })
-        }
-        Ok((verdict, lines)) if verdict.equal() => {
-            let lines = lines?;
-            let kind = if given.flag("--reachable") { " of reachable states" } else { "" };
-            let count = counted(lines.len() as u64, "pair");
-            let head = format!("{} equal{by}, {count}{kind} in the largest bisimulation\n", word(mode));
-            Ok(Outcome { text: head + &lines.concat(), notes, status: EQUAL })
-        }
-        Ok((verdict, _)) => {
-            let rounds = counted(verdict.rounds, "round");
-            let text = format!(
-                "{} different ({rounds}{by}): no bisimulation holds the pair of starting states.\n",
-                word(mode)
-            );
-            Ok(Outcome { text, notes, status: DIFFERENT })
-        }
-    }
+    let (answer, _) =
+        progress::timed(word(mode), true, || table.get()?.compare(texts[0], texts[1], mode, limit));
+    let (text, status) = match answer {
+        Err(refusal) => (refusals::of_comparison(&refusal, &Call { files, texts, entries, limit }), REFUSED),
+        Ok(verdict) => match verdict.largest {
+            Some(root) => (equal(root, &models, &asked, mode, basis.words())?, EQUAL),
+            None => (different(mode, verdict.rounds, basis.words()), DIFFERENT),
+        },
+    };
+    Ok(Outcome { text, notes: basis.notes, status })
 }
 
-type Lines = Result<Vec<String>, Failure>;
+fn different(mode: Mode, rounds: u64, by: &str) -> String {
+    let rounds = counted(rounds, "round");
+    format!("{} different ({rounds}{by}): no bisimulation holds the pair of starting states.\n", word(mode))
+}
 
-/// The verdict, and the pairs where it is "equal".
-fn judge(
-    table: &mut Lent,
+/// The pairs in words. The states are listed only now, since that may take far longer than the verdict.
+fn equal(
+    root: Root<'_>,
+    models: &[Loaded; 2],
+    asked: &Asked,
     mode: Mode,
-    limit: u64,
+    by: &str,
+) -> Result<String, Stopped> {
+    let codes = asked.codes(models)?;
+    let lines = progress::timed("listing", true, || list(root, models, &codes, asked)).0?;
+    let kind = if asked.reachable { " of reachable states" } else { "" };
+    let count = counted(lines.len() as u64, "pair");
+    let head = format!("{} equal{by}, {count}{kind} in the largest bisimulation\n", word(mode));
+    Ok(head + &lines.concat())
+}
+
+fn list(
+    root: Root<'_>,
     models: &[Loaded; 2],
     codes: &[Vec<u64>; 2],
-) -> Result<(Verdict, Lines), Refusal> {
-    let verdict = table.get()?.compare(&models[0].text, &models[1].text, mode, limit)?;
-    let lines = verdict.largest.map_or(Ok(Vec::new()), |root| list(root, models, codes));
-    Ok((Verdict::of(verdict), lines))
-}
-
-/// The codes of both sides between which pairs are asked for.
-fn codes(given: &Given, models: &[Loaded; 2]) -> Result<[Vec<u64>; 2], Stopped> {
-    let most = given.number("--most")?.unwrap_or(MOST_ASKED);
-    let both = match given.flag("--reachable") {
-        true => [&models[0], &models[1]].map(|m| reach::reachable(m, most).map(|listed| listed.codes)),
-        false => [&models[0], &models[1]].map(|m| Ok(within(Space::of(&m.model), most))),
-    };
-    let [left, right] = both;
-    let codes = [left?, right?];
-    let asked = codes.iter().map(|c| c.len() as u64).product::<u64>();
-    let sizes = [&models[0], &models[1]].map(|m| Space::of(&m.model).states());
-    let wanted = if given.flag("--reachable") { asked } else { sizes[0].saturating_mul(sizes[1]) };
-    match wanted > most.min(MOST_LOOK_UPS) {
-        true => too_many(wanted, most),
-        false => Ok(codes),
-    }
-}
-
-fn too_many<T>(wanted: u64, most: u64) -> Result<T, Stopped> {
-    let advice = match wanted > MOST_LOOK_UPS {
-        true => format!("make the models smaller: no --most allows more than {}", grouped(MOST_LOOK_UPS)),
-        false => "allow more with --most N".to_string(),
-    };
-    fail(format!(
-        "the models have {} of states, too many to list; the limit is {}. List the reachable ones with --reachable, or {advice}.",
-        counted(wanted, "pair"),
-        grouped(most.min(MOST_LOOK_UPS))
-    ))
-}
-
-/// All codes, or none where there are too many.
-fn within(space: Space, most: u64) -> Vec<u64> {
-    if space.states() > most {
-        return Vec::new();
-    }
-    space.all_codes()
-}
-
-fn list(root: Root<'_>, models: &[Loaded; 2], codes: &[Vec<u64>; 2]) -> Lines {
+    asked: &Asked,
+) -> Result<Vec<String>, Failure> {
     let spaces = [Space::of(&models[0].model), Space::of(&models[1].model)];
     let line = |(left, right): (u64, u64)| {
         let one = spaces[0].words(left, &models[0].names);
         let other = spaces[1].words(right, &models[1].names);
         format!("{one}  ~  {other}\n")
     };
-    Ok(held(root, codes)?.into_iter().map(line).collect())
+    Ok(held(root, codes, asked)?.into_iter().map(line).collect())
 }
 
 /// The pairs of codes that the largest bisimulation holds.
-fn held(root: Root<'_>, codes: &[Vec<u64>; 2]) -> Result<Vec<(u64, u64)>, Failure> {
+fn held(root: Root<'_>, codes: &[Vec<u64>; 2], asked: &Asked) -> Result<Vec<(u64, u64)>, Failure> {
     let mut pairs = Vec::new();
     for (left, right) in codes[0].iter().flat_map(|left| codes[1].iter().map(move |right| (*left, *right))) {
         if proved::look_up(root, 0, [left, 0, right, 0])? {
@@ -132,9 +148,9 @@ fn held(root: Root<'_>, codes: &[Vec<u64>; 2]) -> Result<Vec<(u64, u64)>, Failur
         }
         if pairs.len() as u64 > MOST_LINES {
             return fail(format!(
-                "more than {} are in the largest bisimulation, too many to list with any --most. List fewer with --reachable, or make \
-                 the models smaller.",
-                counted(MOST_LINES, "pair")
+                "more than {} are in the largest bisimulation, too many to list with any --most. {}.",
+                counted(MOST_LINES, "pair"),
+                asked.or_reachable(SMALLER)
             ));
         }
     }

@@ -8,7 +8,7 @@ use crate::files;
 use crate::frames::Frame;
 use crate::load::{load, Loaded};
 use crate::outcome::{counted, fail, Answer, Outcome, Stopped};
-use crate::reach::{self, MOST};
+use crate::reach::{self, MOST, PART};
 use crate::readable;
 use crate::words::{channel_list, spelled};
 
@@ -29,7 +29,7 @@ pub fn run(given: &Given) -> Answer {
 /// A leaf with all its states, or the reachable part of another process.
 fn picture(loaded: &Loaded, most: u64) -> Result<String, Stopped> {
     let leaf = matches!(loaded.model.frames.last(), Some(Frame::Leaf { .. }));
-    let listed = if leaf { reach::every(loaded, most)? } else { reach::reachable(loaded, most)? };
+    let listed = if leaf { reach::every(loaded, most)? } else { reach::reachable(loaded, most, PART)? };
     Ok(dot::print(&listed, &loaded.names, &files::stem(&loaded.path)))
 }
 

@@ -3,7 +3,7 @@
 use crate::arguments::{Form, Given};
 use crate::load::load;
 use crate::outcome::{counted, Answer, Outcome};
-use crate::reach::{self, Listed, MOST};
+use crate::reach::{self, Listed, MOST, PART};
 use crate::words::action;
 
 pub const FORM: Form = Form { command: "steps", values: &["--line", "--most"], flags: &["--all"] };
@@ -13,7 +13,7 @@ pub fn run(given: &Given) -> Answer {
     let most = given.number("--most")?.unwrap_or(MOST);
     let (listed, kind) = match given.flag("--all") {
         true => (reach::every(&loaded, most)?, "state"),
-        false => (reach::reachable(&loaded, most)?, "reachable state"),
+        false => (reach::reachable(&loaded, most, PART)?, "reachable state"),
     };
     let states = counted(listed.codes.len() as u64, kind);
     let steps = counted(listed.steps.len() as u64, "step");

@@ -7,13 +7,13 @@ use crate::load::{load, Loaded};
 use crate::names::Names;
 use crate::outcome::{counted, Answer};
 use crate::output;
-use crate::reach::{self, Listed, MOST};
+use crate::reach::{self, Listed, MOST, PART};
 
 pub const FORM: Form = Form { command: "to-aut", values: &["--line", "--most", "--out"], flags: &["--tau"] };
 
 pub fn run(given: &Given) -> Answer {
     let loaded = load(given.one_file()?)?.up_to(given.number("--line")?)?;
-    let listed = reach::reachable(&loaded, given.number("--most")?.unwrap_or(MOST))?;
+    let listed = reach::reachable(&loaded, given.number("--most")?.unwrap_or(MOST), PART)?;
     let internal = if given.flag("--tau") { "\"tau\"" } else { "i" };
     let aut = converted(&loaded, &listed);
     let mut outcome = output::give(aut::print(&aut, internal), given.path("--out"), &loaded.read())?;
