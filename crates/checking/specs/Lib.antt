@@ -1,2 +1,2 @@
--- What the program's comparisons answer.
+-- What the program prints of two texts.
 pub mod Program

@@ -1,11 +1,18 @@
--- What the program's comparisons answer. Assumes nothing.
+-- What the program prints of two texts. Assumes nothing.
 use mathlib.Core.Path.{_≡_}
 use mathlib.Core.List.{List}
 use Prim.Native.Nat.{ℕ}
 use lib.ListN.{length}
 use Rattle.nodes.specs.Lookup.{Slices}
+use Rattle.verdicts.specs.Bisimulation.{Mode, strong, weak, by-mode}
 use Rattle.verdicts.specs.Contract.{Compared}
 use Rattle.verdicts.specs.declared.Answer.{Answer}
+use Rattle.verdicts.specs.declared.Answer.the-variants as answer
+use Rattle.verdicts.specs.declared.Verdict.{Verdict}
+use Rattle.verdicts.specs.declared.Verdict.the-variants as verdict
+use Rattle.checking.specs.declared.Line.{Line}
+use Rattle.checking.specs.declared.Line.the-variants.{Equal, Different, Refused}
+use Rattle.checking.specs.declared.Lines.{Lines}
 
 -- the entries of its table, and the most rounds
 abbrev pub tableLength : ℕ
@@ -14,11 +21,25 @@ tableLength = 4096
 abbrev pub roundLimit : ℕ
 roundLimit = 1000000
 
--- the answer is that of a comparison of two texts in a mode, with a table of that length and that limit
-pub record Program (l r : List ℕ) (mode : ℕ) (answer : Answer) : Type 0 where
+-- a verdict with its rounds and the comparison's nodes; 9 where none falls by the limit
+abbrev pub verdict-line : Verdict → ℕ → Line
+verdict-line (verdict.Equal b rounds) nodes = Equal rounds nodes
+verdict-line (verdict.Different rounds) nodes = Different rounds nodes
+verdict-line verdict.Spent nodes = Refused 9 2 0
+
+-- the line of a mode; a refusal of the comparison stands on both
+abbrev pub line-in : Mode → Answer → Line
+line-in m (answer.Answered l r s w nodes) = verdict-line (by-mode s w m) nodes
+line-in m (answer.Refused number side line) = Refused number side line
+
+-- the lines are those of a comparison of two texts, with a table of that length and that limit
+pub record Program (l r : List ℕ) (lines : Lines) : Type 0 where
   pub before : Slices
   pub after : Slices
   pub level-length : length (before .level) ≡ tableLength
   pub low-length : length (before .low) ≡ tableLength
   pub high-length : length (before .high) ≡ tableLength
-  pub compared : Compared l r mode roundLimit before after answer
+  pub answer : Answer
+  pub compared : Compared l r roundLimit before after answer
+  pub strong-line : lines .strong ≡ line-in strong answer
+  pub weak-line : lines .weak ≡ line-in weak answer

@@ -1,9 +1,12 @@
-// Reads left.hex and right.hex, compares the models strongly and weakly, and prints both answers.
+// Reads left.hex and right.hex, compares the models, and prints the strong and the weak verdict.
+ghost use mathlib.Core.Path.{_≡_};
 ghost use Prim.Native.Nat.{_≤_};
 ghost use lib.ListN.{length};
-ghost use Rattle.checking.specs.Program.{Program};
+ghost use Rattle.verdicts.specs.Bisimulation.{strong, weak};
+ghost use Rattle.checking.specs.Program.{verdict-line, line-in, Program};
 use libc::STDOUT_FILENO;
 use verdicts::Answer;
+use verdicts::Verdict;
 use verdicts::compare::compare;
 
 // The largest text: 64 lines of 255 bytes, two digits a byte, with their 0A.
@@ -14,6 +17,19 @@ const LENGTH: usize = 4096;
 
 // The most rounds.
 const LIMIT: u64 = 1000000;
+
+// What the line of one mode says.
+pub enum Line {
+    Equal { rounds: u64, nodes: u32 },
+    Different { rounds: u64, nodes: u32 },
+    Refused { number: u8, side: u8, line: usize },
+}
+
+// What both lines say.
+pub struct Lines {
+    pub strong: Line,
+    pub weak: Line,
+}
 
 fn say(text: &[u8]) {
     io::write_all(STDOUT_FILENO, text);
@@ -66,69 +82,100 @@ fn read_file(path: &[u8], buf: &mut [u8]) -> usize
     n
 }
 
-// The rest of an answer's line: the verdict with its rounds and nodes, or the refusal.
-fn print_answer(answer: Answer) {
-    match answer {
-        Answer::Equal {
-            left: _,
-            right: _,
-            iterate: _,
-            rounds,
-            nodes,
-        } => {
-            say(b" equal");
-            number(rounds);
-            number(nodes as u64);
-        }
-        Answer::Different {
-            left: _,
-            right: _,
-            rounds,
-            nodes,
-        } => {
-            say(b" different");
-            number(rounds);
-            number(nodes as u64);
-        }
-        Answer::Refused {
-            number: n,
-            side,
-            line,
-        } => {
-            say(b" refused");
-            number(n as u64);
-            number(side as u64);
-            number(line as u64);
-        }
+// What a verdict's line says, with the nodes of its comparison.
+fn line_of(verdict: Verdict, nodes: u32) -> Line
+    ensures { λ r. ⌜ r ≡ verdict-line verdict nodes ⌝ }
+{
+    match verdict {
+        Verdict::Equal { iterate: _, rounds } => Line::Equal { rounds, nodes },
+        Verdict::Different { rounds } => Line::Different { rounds, nodes },
+        Verdict::Spent => Line::Refused {
+            number: 9,
+            side: 2,
+            line: 0,
+        },
     }
-    say(b"\n");
 }
 
-// Compares in one mode.
-fn compare_in(left: &[u8], right: &[u8], mode: u64) -> Answer
-    ensures { λ r. ⌜ Program (now (left .entry)) (now (right .entry)) mode r ⌝ }
+// What both lines say: a refusal of the comparison stands on both.
+fn lines_of(answer: Answer) -> Lines
+    ensures { λ r. ⌜ (r .strong ≡ line-in strong answer) × (r .weak ≡ line-in weak answer) ⌝ }
+{
+    match answer {
+        Answer::Answered {
+            left: _,
+            right: _,
+            strong,
+            weak,
+            nodes,
+        } => {
+            let s = line_of(strong, nodes);
+            let w = line_of(weak, nodes);
+            Lines { strong: s, weak: w }
+        }
+        Answer::Refused { number, side, line } => {
+            let s = Line::Refused { number, side, line };
+            let w = Line::Refused { number, side, line };
+            Lines { strong: s, weak: w }
+        }
+    }
+}
+
+// Compares two texts: what the program prints of them.
+fn compare_texts(left: &[u8], right: &[u8]) -> Lines
+    ensures { λ r. ⌜ Program (now (left .entry)) (now (right .entry)) r ⌝ }
 {
     let mut level = [0u8; LENGTH];
     let mut low = [0u32; LENGTH];
     let mut high = [0u32; LENGTH];
     let mut work = [0u32; 4 * LENGTH];
-    compare(
+    let a = compare(
         left,
         right,
-        mode,
         LIMIT,
         &mut level,
         &mut low,
         &mut high,
         &mut work,
-    )
+    );
+    lines_of(a)
+}
+
+// Prints the rest of a line: a verdict with its rounds and nodes, or a refusal.
+fn print_line(line: Line) {
+    match line {
+        Line::Equal { rounds, nodes } => {
+            say(b" equal");
+            number(rounds);
+            number(nodes as u64);
+        }
+        Line::Different { rounds, nodes } => {
+            say(b" different");
+            number(rounds);
+            number(nodes as u64);
+        }
+        Line::Refused {
+            number: n,
+            side,
+            line: l,
+        } => {
+            say(b" refused");
+            number(n as u64);
+            number(side as u64);
+            number(l as u64);
+        }
+    }
+    say(b"\n");
 }
 
 fn compare_both(left: &[u8], right: &[u8]) {
+    let lines = compare_texts(left, right);
+    let strong = lines.strong;
+    let weak = lines.weak;
     say(b"strong");
-    print_answer(compare_in(left, right, 0));
+    print_line(strong);
     say(b"weak");
-    print_answer(compare_in(left, right, 1));
+    print_line(weak);
 }
 
 // The program of document 01, in the current folder: a strong line, then a weak one; or which file could not be read.

@@ -19,7 +19,7 @@ use Rattle.verdicts.specs.declared.Answer.the-variants.{Refused}
 -- the words that a summary gives for its last line
 abbrev pub summary-words : List ℕ → Summary → List ℕ
 summary-words words s =
-    six words (entry (s .bits) (s .lines - 1)) (s .lines) (entry (s .uses) (s .lines - 1)) (entry (s .states) (s .lines - 1)) 0 0
+    six words 0 (entry (s .bits) (s .lines - 1)) (s .lines) (entry (s .uses) (s .lines - 1)) (entry (s .states) (s .lines - 1)) 0 0
 
 -- with too few words
 pub described-short : (t words : List ℕ) → length words < 6 → Described t words words 3

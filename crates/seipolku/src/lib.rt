@@ -2,90 +2,117 @@
 pub mod model;
 
 ghost use mathlib.Core.Path.{_≡_};
-ghost use Prim.Native.Nat.{_≤_};
+ghost use Prim.Native.Nat.{_+_, _≤_};
 ghost use lib.ListN.{length};
 ghost use Rattle.nodes.specs.Lookup.{slices, look-up};
-ghost use Rattle.seipolku.specs.Exported.{six, answered, kindOf, work, Exported, numbered};
+ghost use Rattle.verdicts.specs.Contract.{verdict-values};
+ghost use Rattle.seipolku.specs.Exported.{six, answered, kindOf, Exported, numbered};
 use nodes::lookup::Looked;
 use nodes::lookup::look_up;
 use verdicts::Answer;
+use verdicts::Verdict;
 use verdicts::compare::compare;
 
-// Writes six words.
-fn put(words: &mut [u64], a: u64, b: u64, c: u64, d: u64, e: u64, f: u64)
-    requires { ⌜ 6 ≤ length (now words) ⌝ }
-    ensures { λ _. ⌜ now (words .exit) ≡ six (now (words .entry)) a b c d e f ⌝ }
+// The words of an answer.
+const WORDS: usize = 12;
+
+// The three words of a verdict.
+struct Said {
+    number: u64,
+    rounds: u64,
+    iterate: u64,
+}
+
+// Writes six words, from the place `at` on.
+fn put(words: &mut [u64], at: usize, a: u64, b: u64, c: u64, d: u64, e: u64, f: u64)
+    requires { ⌜ at + 6 ≤ length (now words) ⌝ }
+    ensures { λ _. ⌜ now (words .exit) ≡ six (now (words .entry)) at a b c d e f ⌝ }
 {
-    words[0] = a;
-    words[1] = b;
-    words[2] = c;
-    words[3] = d;
-    words[4] = e;
-    words[5] = f;
+    words[at] = a;
+    words[at + 1] = b;
+    words[at + 2] = c;
+    words[at + 3] = d;
+    words[at + 4] = e;
+    words[at + 5] = f;
+}
+
+// What a verdict says.
+fn words_of(verdict: Verdict) -> Said
+    ensures { λ r. ⌜ (r .number ≡ verdict-values verdict .number) × (r .rounds ≡ verdict-values verdict .rounds) × (r .iterate ≡ verdict-values verdict .iterate) ⌝ }
+{
+    match verdict {
+        Verdict::Equal { iterate, rounds } => Said {
+            number: 0,
+            rounds,
+            iterate: iterate as u64,
+        },
+        Verdict::Different { rounds } => Said {
+            number: 1,
+            rounds,
+            iterate: 0,
+        },
+        Verdict::Spent => Said {
+            number: 9,
+            rounds: 0,
+            iterate: 0,
+        },
+    }
 }
 
 // Writes an answer's words.
 fn write(answer: Answer, words: &mut [u64]) -> u64
-    requires { ⌜ 6 ≤ length (now words) ⌝ }
+    requires { ⌜ 12 ≤ length (now words) ⌝ }
     ensures { λ r. ⌜ (r ≡ kindOf answer) × (now (words .exit) ≡ answered (now (words .entry)) answer) ⌝ }
 {
     match answer {
-        Answer::Equal {
+        Answer::Answered {
             left,
             right,
-            iterate,
-            rounds,
+            strong,
+            weak,
             nodes,
         } => {
+            let s = words_of(strong);
+            let w = words_of(weak);
             put(
                 words,
+                0,
                 left as u64,
                 right as u64,
-                iterate as u64,
-                rounds,
-                nodes as u64,
-                0,
+                s.number,
+                s.rounds,
+                s.iterate,
+                w.number,
             );
+            put(words, 6, w.rounds, w.iterate, nodes as u64, 0, 0, 0);
             0
         }
-        Answer::Different {
-            left,
-            right,
-            rounds,
-            nodes,
-        } => {
-            put(words, left as u64, right as u64, 0, rounds, nodes as u64, 0);
-            1
-        }
         Answer::Refused { number, side, line } => {
-            put(words, number as u64, side as u64, line as u64, 0, 0, 0);
+            put(words, 0, number as u64, side as u64, line as u64, 0, 0, 0);
+            put(words, 6, 0, 0, 0, 0, 0, 0);
             2
         }
     }
 }
 
-// Compares two models: 0 equal, 1 different, 2 refused, with the answer's six words; 3 where answer has fewer, and then nothing is touched.
-// All work is done in `memo`; `head` and `next` are never touched.
+// Compares two models: 0 answered, 2 refused, with the answer's twelve words; 3 where answer has fewer, and then nothing is touched.
 #[no_mangle]
 pub extern "C" fn seipolku_compare(
     left: &[u8],
     right: &[u8],
-    mode: u64,
     limit: u64,
     level: &mut [u8],
     low: &mut [u32],
     high: &mut [u32],
-    head: &mut [u32],
-    next: &mut [u32],
-    memo: &mut [u32],
+    work: &mut [u32],
     answer: &mut [u64],
 ) -> u64
-    ensures { λ r. ⌜ Exported (now (left .entry)) (now (right .entry)) mode limit (slices (now (level .entry)) (now (low .entry)) (now (high .entry))) (slices (now (level .exit)) (now (low .exit)) (now (high .exit))) (work (now (head .entry)) (now (next .entry)) (now (memo .entry))) (work (now (head .exit)) (now (next .exit)) (now (memo .exit))) (now (answer .entry)) (now (answer .exit)) r ⌝ }
+    ensures { λ r. ⌜ Exported (now (left .entry)) (now (right .entry)) limit (slices (now (level .entry)) (now (low .entry)) (now (high .entry))) (slices (now (level .exit)) (now (low .exit)) (now (high .exit))) (now (work .entry)) (now (work .exit)) (now (answer .entry)) (now (answer .exit)) r ⌝ }
 {
-    if answer.len() < 6 {
+    if answer.len() < WORDS {
         return 3;
     }
-    let a = compare(left, right, mode, limit, level, low, high, memo);
+    let a = compare(left, right, limit, level, low, high, work);
     write(a, answer)
 }
 

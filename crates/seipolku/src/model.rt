@@ -13,7 +13,7 @@ use frames::text::read;
 // Writes the words for an accepted text with this summary, whose last line's process is the model.
 fn write_model(s: Summary, words: &mut [u64])
     requires { ⌜ (1 ≤ s .lines) × (s .lines ≤ maxLines) × (6 ≤ length (now words)) ⌝ }
-    ensures { λ _. ⌜ now (words .exit) ≡ six (now (words .entry)) (entry (s .bits) (s .lines - 1)) (s .lines) (entry (s .uses) (s .lines - 1)) (entry (s .states) (s .lines - 1)) 0 0 ⌝ }
+    ensures { λ _. ⌜ now (words .exit) ≡ six (now (words .entry)) 0 (entry (s .bits) (s .lines - 1)) (s .lines) (entry (s .uses) (s .lines - 1)) (entry (s .states) (s .lines - 1)) 0 0 ⌝ }
 {
     let bits = s.bits;
     let uses = s.uses;
@@ -21,6 +21,7 @@ fn write_model(s: Summary, words: &mut [u64])
     let last = s.lines - 1;
     put(
         words,
+        0,
         bits[last] as u64,
         s.lines as u64,
         uses[last] as u64,
@@ -47,7 +48,7 @@ pub extern "C" fn seipolku_model(text: &[u8], answer: &mut [u64]) -> u64
             0
         }
         Verdict::Refused { number, line } => {
-            put(answer, number as u64, 0, line as u64, 0, 0, 0);
+            put(answer, 0, number as u64, 0, line as u64, 0, 0, 0);
             2
         }
     }

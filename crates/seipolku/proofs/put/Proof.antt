@@ -5,9 +5,6 @@ use borrow.Author.Needs.{needs}
 use Rattle.seipolku.proofs.put.Statement.{statement}
 use Rattle.seipolku.proofs.put.Tie as tie
 
-slice-write-words : tie.Need-slice-write-words
-slice-write-words c = search needs
-
 slice-write-words-2 : tie.Need-slice-write-words-2
 slice-write-words-2 c = simp length-set (omega arith)
 
@@ -23,21 +20,26 @@ slice-write-words-5 c = simp length-set (omega arith)
 slice-write-words-6 : tie.Need-slice-write-words-6
 slice-write-words-6 c = simp length-set (omega arith)
 
-same-length : tie.Need-same-length
-same-length c = simp length-set
-
-returns : tie.Need-returns
-returns c = search needs
-
 pub put-spec : {M : Type 1} → statement M
 put-spec =
     tie.close
     (tie.spec
-    slice-write-words
+    (λ c. search needs)
+    (λ c. search needs)
+    (λ c. search needs)
+    (λ c. search needs)
     slice-write-words-2
+    (λ c. search needs)
+    (λ c. search needs)
     slice-write-words-3
+    (λ c. search needs)
+    (λ c. search needs)
     slice-write-words-4
+    (λ c. search needs)
+    (λ c. search needs)
     slice-write-words-5
+    (λ c. search needs)
+    (λ c. search needs)
     slice-write-words-6
-    same-length
-    returns)
+    (λ c. search needs)
+    (λ c. search needs))

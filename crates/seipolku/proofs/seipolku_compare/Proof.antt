@@ -7,7 +7,7 @@ use Rattle.seipolku.proofs.seipolku_compare.Tie as tie
 
 returns : tie.Need-returns
 returns c =
-    record { untouched = (refl, refl); short = λ _. (refl, refl, refl, refl); long = λ h. absurd (omega (arith, c .if1 .taken)) }
+    record { short = λ _. (refl, refl, refl, refl); long = λ h. absurd (omega (arith, c .if1 .taken)) }
 
 returns-2 : tie.Need-returns-2
 returns-2 c =
@@ -16,7 +16,7 @@ returns-2 c =
     let c1 = c2 .before .before .before .before .before in
     let w = c3 .write .ensures in
     let d = c2 .compare in
-    record { untouched = (refl, refl); short = λ h. absurd (omega (arith, c1 .if1 .left)); long = λ _. (d .result, d .ensures, w .0, w .1) }
+    record { short = λ h. absurd (omega (arith, c1 .if1 .left)); long = λ _. (d .result, d .ensures, w .0, w .1) }
 
 pub seipolku-compare-spec : {M : Type 1} → statement M
 seipolku-compare-spec =
