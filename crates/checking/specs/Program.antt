@@ -14,7 +14,7 @@ use Rattle.checking.specs.declared.Line.{Line}
 use Rattle.checking.specs.declared.Line.the-variants.{Equal, Different, Refused}
 use Rattle.checking.specs.declared.Lines.{Lines}
 
--- the entries of its table, and the most rounds
+-- the entries of its table, and its limit
 abbrev pub tableLength : ℕ
 tableLength = 4096
 
@@ -32,14 +32,14 @@ abbrev pub line-in : Mode → Answer → Line
 line-in m (answer.Answered l r s w nodes) = verdict-line (by-mode s w m) nodes
 line-in m (answer.Refused number side line) = Refused number side line
 
--- the lines are those of a comparison of two texts, with a table of that length and that limit
-pub record Program (l r : List ℕ) (lines : Lines) : Type 0 where
+-- the lines are those of a comparison of two texts by a limit, with a table of that length; the program's limit is `roundLimit`
+pub record Printed (l r : List ℕ) (limit : ℕ) (lines : Lines) : Type 0 where
   pub before : Slices
   pub after : Slices
   pub level-length : length (before .level) ≡ tableLength
   pub low-length : length (before .low) ≡ tableLength
   pub high-length : length (before .high) ≡ tableLength
   pub answer : Answer
-  pub compared : Compared l r roundLimit before after answer
+  pub compared : Compared l r limit before after answer
   pub strong-line : lines .strong ≡ line-in strong answer
   pub weak-line : lines .weak ≡ line-in weak answer

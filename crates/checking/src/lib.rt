@@ -3,7 +3,7 @@ ghost use mathlib.Core.Path.{_≡_};
 ghost use Prim.Native.Nat.{_≤_};
 ghost use lib.ListN.{length};
 ghost use Rattle.verdicts.specs.Bisimulation.{strong, weak};
-ghost use Rattle.checking.specs.Program.{verdict-line, line-in, Program};
+ghost use Rattle.checking.specs.Program.{roundLimit, verdict-line, line-in, Printed};
 use libc::STDOUT_FILENO;
 use verdicts::Answer;
 use verdicts::Verdict;
@@ -121,9 +121,9 @@ fn lines_of(answer: Answer) -> Lines
     }
 }
 
-// Compares two texts: what the program prints of them.
-fn compare_texts(left: &[u8], right: &[u8]) -> Lines
-    ensures { λ r. ⌜ Program (now (left .entry)) (now (right .entry)) r ⌝ }
+// Compares two texts by the iterates up to a limit: what both lines say.
+fn compare_within(left: &[u8], right: &[u8], limit: u64) -> Lines
+    ensures { λ r. ⌜ Printed (now (left .entry)) (now (right .entry)) limit r ⌝ }
 {
     let mut level = [0u8; LENGTH];
     let mut low = [0u32; LENGTH];
@@ -132,13 +132,20 @@ fn compare_texts(left: &[u8], right: &[u8]) -> Lines
     let a = compare(
         left,
         right,
-        LIMIT,
+        limit,
         &mut level,
         &mut low,
         &mut high,
         &mut work,
     );
     lines_of(a)
+}
+
+// What the program prints of two texts.
+fn compare_texts(left: &[u8], right: &[u8]) -> Lines
+    ensures { λ r. ⌜ Printed (now (left .entry)) (now (right .entry)) roundLimit r ⌝ }
+{
+    compare_within(left, right, LIMIT)
 }
 
 // Prints the rest of a line: a verdict with its rounds and nodes, or a refusal.
@@ -168,14 +175,23 @@ fn print_line(line: Line) {
     say(b"\n");
 }
 
-fn compare_both(left: &[u8], right: &[u8]) {
-    let lines = compare_texts(left, right);
+fn print_lines(lines: Lines) {
     let strong = lines.strong;
     let weak = lines.weak;
     say(b"strong");
     print_line(strong);
     say(b"weak");
     print_line(weak);
+}
+
+fn compare_both(left: &[u8], right: &[u8]) {
+    print_lines(compare_texts(left, right));
+}
+
+// Prints what the program would print of two texts with another limit; with its own no verdict is missing, as so many iterates need more nodes
+// than its table has.
+pub fn print_within(left: &[u8], right: &[u8], limit: u64) {
+    print_lines(compare_within(left, right, limit));
 }
 
 // The program of document 01, in the current folder: a strong line, then a weak one; or which file could not be read.

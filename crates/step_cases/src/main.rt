@@ -1,10 +1,11 @@
 // For stored models, prints the derived steps that the relation shows: a model is compared with itself, and for every two states and action
-// there is a look-up from the relation's root. A code is a state's where the last iterate relates it to itself. The stored output was made by
+// there is a look-up from the relation's root. A code is a state's where the last strong iterate relates it to itself. The stored output was made by
 // the independent program.
 use libc::STDOUT_FILENO;
 use nodes::lookup::Looked;
 use nodes::lookup::look_up;
 use verdicts::Answer;
+use verdicts::Verdict;
 use verdicts::compare::compare;
 
 fn say(text: &[u8]) {
@@ -93,24 +94,17 @@ fn show(name: &[u8], text: &[u8], n: u64) {
     let mut low = [0u32; 16384];
     let mut high = [0u32; 16384];
     let mut work = [0u32; 65536];
-    let answer = compare(
-        text,
-        text,
-        0,
-        1000,
-        &mut level,
-        &mut low,
-        &mut high,
-        &mut work,
-    );
-    if let Answer::Equal {
+    let answer = compare(text, text, 1000, &mut level, &mut low, &mut high, &mut work);
+    if let Answer::Answered {
         left,
         right: _,
-        iterate,
-        rounds: _,
+        strong,
+        weak: _,
         nodes: _,
     } = answer {
-        print_steps(&level, &low, &high, left as u64, iterate as u64, n);
+        if let Verdict::Equal { iterate, rounds: _ } = strong {
+            print_steps(&level, &low, &high, left as u64, iterate as u64, n);
+        }
     }
 }
 
