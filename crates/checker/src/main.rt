@@ -1,4 +1,4 @@
-// Reads left.hex and right.hex, compares the models strongly and weakly, and prints both answers.
+// Reads left.hex and right.hex, compares the models, and prints the strong and the weak verdict.
 fn main() {
     checking::run();
 }

@@ -25,8 +25,8 @@ abbrev pub six : List ℕ → (at a b c d e f : ℕ) → List ℕ
 six words at a b c d e f = set (set (set (set (set (set words at a) (at + 1) b) (at + 2) c) (at + 3) d) (at + 4) e) (at + 5) f
 
 -- The twelve words of an answer: left root, right root; number, rounds and iterate's root of the strong verdict, and of the weak one; nodes; 0, 0, 0.
-abbrev pub verdict-words : List ℕ → Values → List ℕ
-verdict-words words v =
+abbrev pub answer-words : List ℕ → Values → List ℕ
+answer-words words v =
     six (six words 0 (v .left) (v .right) (v .verdict strong .number) (v .verdict strong .rounds) (v .verdict strong .iterate) (v .verdict weak .number))
     6 (v .verdict weak .rounds) (v .verdict weak .iterate) (v .nodes) 0 0 0
 
@@ -36,7 +36,7 @@ refusal-words words v = six words 0 (v .number) (v .side) (v .line) 0 0 0
 
 -- the words of an answer or refusal, by the documents' number and values; those past the twelfth stay
 abbrev pub answered : List ℕ → Answer → List ℕ
-answered words (Answered l r s w nodes) = verdict-words words (valuesOf (Answered l r s w nodes))
+answered words (Answered l r s w nodes) = answer-words words (valuesOf (Answered l r s w nodes))
 answered words (Refused number side line) = six (refusal-words words (valuesOf (Refused number side line))) 6 0 0 0 0 0 0
 
 -- The contract of the exported comparison. With fewer than twelve words for the answer it returns 3 and touches nothing. The work slice is free
@@ -61,7 +61,7 @@ readKind text.Accepted = 0
 readKind (text.Refused number line) = 2
 
 -- the words for an accepted text: the bits of its model, its lines, the leaf uses and the states of its model, 0, 0; and for a refused one
--- those of the same refusal by a comparison that has it on the left
+-- the first six of the same refusal by a comparison that has it on the left
 abbrev pub model-words : List ℕ → List ℕ → Verdict → List ℕ
 model-words words t text.Accepted = six words 0 (width (modelOf t)) (length (linesOf t)) (leaves (modelOf t)) (stateCount (modelOf t)) 0 0
 model-words words t (text.Refused number line) = refusal-words words (valuesOf (Refused number 0 line))
