@@ -274,17 +274,11 @@ pub fn chain_pair(random: &mut Random) -> (Vec<Frame>, Vec<Frame>) {
     (vec![chain], vec![other])
 }
 
-/// A pair of accepted models with mode, limit and table length.
+/// A pair of accepted models with limit and table length.
 pub fn sound_case(random: &mut Random) -> Case {
     let budget = random.pick(&[2, 3, 4, 5, 6]);
     let (left, right) = pair(random, budget);
-    let mut case = Case {
-        left: text(&left),
-        right: text(&right),
-        mode: random.below(2) as u64,
-        limit: LIMIT,
-        length: LENGTH,
-    };
+    let mut case = Case { left: text(&left), right: text(&right), limit: LIMIT, length: LENGTH };
     if random.once_in(3) {
         tighten(random, &mut case);
     }
@@ -293,9 +287,8 @@ pub fn sound_case(random: &mut Random) -> Case {
 
 /// Moves limit or table length to an edge of the answer.
 fn tighten(random: &mut Random, case: &mut Case) {
-    let (Answer::Equal { rounds, nodes } | Answer::Different { rounds, nodes }) = case.run().answer else {
-        return;
-    };
+    let Answer::Given { strong, weak, nodes } = case.run().answer else { return };
+    let rounds = random.pick(&[strong, weak]).rounds();
     match random.below(6) {
         0 => case.length = nodes + 2,
         1 => case.length = (nodes + 1).max(2),
@@ -312,10 +305,10 @@ fn bad_call(random: &mut Random) -> Case {
     if random.once_in(3) {
         case.left = malformed(random);
     }
-    match random.below(3) {
-        0 => case.mode = 2 + random.draw() % 300,
-        1 => case.length = random.below(2),
-        _ => case.length = MAX_TABLE + 1 + random.below(1000),
+    if random.once_in(2) {
+        case.length = random.below(2);
+    } else {
+        case.length = MAX_TABLE + 1 + random.below(1000);
     }
     case
 }
