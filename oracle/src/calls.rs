@@ -41,7 +41,7 @@ pub struct Pair {
 }
 
 /// Lists that need more nodes are given up; few generated ones do.
-const ROOM: usize = 1 << 17;
+const ROOM: usize = 1 << 18;
 
 impl Pair {
     pub fn new(left: Vec<u8>, right: Vec<u8>) -> Pair {

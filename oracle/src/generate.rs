@@ -40,19 +40,20 @@ pub fn model(random: &mut Random, budget: u32) -> Vec<Frame> {
     builder.frames
 }
 
-/// A model with a line of exactly so many bits: leaves joined one by one. In one of three a small last line follows, which
-/// does not use them.
+/// A model with a line of exactly so many bits: leaves joined one by one, in half of the models most of them without
+/// steps, so that their list is small. In one of three a small last line follows, which does not use them.
 pub fn wide(random: &mut Random, bits: u32) -> Vec<Frame> {
     let mut builder = Builder::new(random, bits);
-    let mut joined = builder.add_narrow_leaf(bits);
+    let triples: &[usize] = if builder.random.once_in(2) { &[0, 0, 0, 0, 1] } else { &[0, 1, 2] };
+    let mut joined = builder.add_narrow_leaf(bits, triples);
     while builder.bits[joined] < bits {
-        let leaf = builder.add_narrow_leaf(bits - builder.bits[joined]);
+        let leaf = builder.add_narrow_leaf(bits - builder.bits[joined], triples);
         let kind = builder.random.pick(&[COMPOSE, JOINT]);
         let (body, sum) = builder.binary(kind, joined, leaf);
         joined = builder.add(body, sum);
     }
     if builder.random.once_in(3) {
-        builder.add_narrow_leaf(2);
+        builder.add_narrow_leaf(2, triples);
     }
     builder.frames
 }
@@ -102,13 +103,13 @@ impl<'a> Builder<'a> {
         self.add(body, bits);
     }
 
-    /// A leaf of 1 to `most` bits, mostly 1, with few triples.
-    fn add_narrow_leaf(&mut self, most: u32) -> usize {
+    /// A leaf of 1 to `most` bits, mostly 1, with one of these numbers of triples.
+    fn add_narrow_leaf(&mut self, most: u32, triples: &[usize]) -> usize {
         let any = 1 + self.random.below(most.min(6) as usize) as u32;
         let bits = self.random.pick(&[1, 1, any]);
         let states = (1 << (bits - 1)) + 1 + self.random.below(1 << (bits - 1)) as u8;
         let mut body = vec![LEAF, states];
-        for _ in 0..self.random.below(3) {
+        for _ in 0..self.random.pick(triples) {
             body.extend(self.triple(states));
         }
         self.add(body, bits)
