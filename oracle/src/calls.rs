@@ -70,12 +70,13 @@ impl Pair {
         matches!(&self.known, Known::Traced(trace) if !trace.full)
     }
 
-    /// A limit up to one past the last iterate; by a lower one some mode has no verdict.
+    /// A limit up to one past the last iterate, or the one by which the first verdict falls; by most of these some mode has
+    /// no verdict.
     fn early_limit(&self, random: &mut Random) -> u64 {
-        match &self.known {
-            Known::Traced(trace) => random.below(trace.nodes.len() + 1) as u64,
-            Known::Refused(_) => 0,
-        }
+        let Known::Traced(trace) = &self.known else { return 0 };
+        let any = random.below(trace.nodes.len() + 1) as u64;
+        let first = trace.outcomes.strong.rounds().min(trace.outcomes.weak.rounds());
+        random.pick(&[any, first])
     }
 
     /// The product of the two numbers of states; 1 if a text is refused.
