@@ -92,6 +92,7 @@ static void mode_fault(uint64_t *answer) {
     if (strong[0] == EQUAL && weak[0] == EQUAL) {
         if (fault("strong iterate given for weak")) weak[ROOT] = strong[ROOT];
         if (fault("weak iterate given for strong")) strong[ROOT] = weak[ROOT];
+        if (fault("weak rounds start at the strong iterate")) weak[ROUNDS] = 1, weak[ROOT] = strong[ROOT];
     }
     if (fault("weak rounds go on from the strong ones") && fell(weak)) weak[ROUNDS] += strong[ROUNDS];
     if (fault("9 for both where one fell") && fell(strong) != fell(weak)) {
