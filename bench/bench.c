@@ -46,22 +46,25 @@ static Table new_table(size_t len) {
     return (Table){malloc(len), malloc(4 * len), malloc(4 * len), malloc(16 * len)};
 }
 
-static void must_be_answered(uint64_t kind, const uint64_t *answer) {
-    if (kind != 0)
-        printf("refused %lu\n", (unsigned long)answer[0]);
-    else if (answer[2] == 9 || answer[5] == 9)
+static Verdict verdict_of(uint64_t verdict, uint64_t rounds) {
+    if (verdict == SEIPOLKU_UNDECIDED) {
         printf("no verdict by the limit\n");
-    else
-        return;
-    exit(1);
+        exit(1);
+    }
+    return (Verdict){verdict == SEIPOLKU_EQUAL, rounds};
 }
 
 static Result by_library(const Pair *p, Table t) {
-    uint64_t answer[12];
+    uint64_t answer[SEIPOLKU_ANSWER_WORDS];
     uint64_t kind = seipolku_compare(p->left.text, p->left.len, p->right.text, p->right.len, 1000000, t.level, p->table, t.low, p->table, t.high, p->table,
-                                     t.work, 4 * p->table, answer, 12);
-    must_be_answered(kind, answer);
-    return (Result){{{answer[2] == 0, answer[3]}, {answer[5] == 0, answer[6]}}, answer[8]};
+                                     t.work, 4 * p->table, answer, SEIPOLKU_ANSWER_WORDS);
+    if (kind != SEIPOLKU_ANSWERED) {
+        printf("refused %lu\n", (unsigned long)answer[SEIPOLKU_REFUSAL_NUMBER]);
+        exit(1);
+    }
+    Verdicts of = {verdict_of(answer[SEIPOLKU_STRONG_VERDICT], answer[SEIPOLKU_STRONG_ROUNDS]),
+                   verdict_of(answer[SEIPOLKU_WEAK_VERDICT], answer[SEIPOLKU_WEAK_ROUNDS])};
+    return (Result){of, answer[SEIPOLKU_NODES]};
 }
 
 static Result by_buddy(const Pair *p) {
