@@ -165,7 +165,7 @@ fn large_pages(start: usize, bytes: usize) {
     extern "C" {
         fn madvise(start: usize, bytes: usize, advice: i32) -> i32;
     }
-    let first = start.next_multiple_of(PAGE);
+    let first = (start + PAGE - 1) / PAGE * PAGE;
     let whole = (start + bytes).saturating_sub(first) / PAGE * PAGE;
     // SAFETY: the pages belong to one allocation, and this advice changes no content. That it is refused is no fault.
     let _ = unsafe { madvise(first, whole, MADV_HUGEPAGE) };

@@ -102,9 +102,9 @@ fn in_each_place(root: Root<'_>, code: u64) -> [Result<bool, Refusal>; 4] {
 /// From nodes, and from the roots 0 and 1, where no level is read.
 #[test]
 fn codes_in_each_place() {
-    let mut table = Table::new(1 << 16).unwrap();
+    let mut table = Table::new(1 << 17).unwrap();
     let mut idle = Table::new(14).unwrap();
-    let large = table.compare(&joined(MAX_BITS), &joined(1), LIMIT).unwrap();
+    let large = table.compare(&joined(MAX_BITS), &joined(MAX_BITS), LIMIT).unwrap();
     let still = idle.compare(b"000101\n", b"000101\n", LIMIT).unwrap();
     let largest =
         [large.strong, large.weak, still.strong, still.weak].map(|verdict| verdict.largest().unwrap());
