@@ -3,71 +3,130 @@
 use std::fmt;
 
 use crate::bisim::{self, Mode, Outcome};
-use crate::list::{self, Trace};
+use crate::list::{self, Outcomes, Trace};
 use crate::model::Model;
 use crate::reader::{self, Refusal};
 use crate::steps::{self, Step};
 
 pub const MAX_TABLE: usize = 1 << 20;
 
+/// The words of the exported call's answer.
+pub const WORDS: usize = 12;
+
 #[derive(Clone, Copy, Debug, PartialEq, Eq)]
 pub enum Answer {
-    Equal { rounds: u64, nodes: usize },
-    Different { rounds: u64, nodes: usize },
-    Refused { number: u8, side: u8, line: usize },
+    /// A verdict for each mode, or none by the limit, and the nodes of the joined list.
+    Given {
+        strong: Outcome,
+        weak: Outcome,
+        nodes: usize,
+    },
+    Refused {
+        number: u8,
+        side: u8,
+        line: usize,
+    },
+}
+
+/// What stands in the place of a verdict that does not fall by the limit.
+const SPENT: &str = "refused 9 2 0";
+
+/// A verdict's place in an answer.
+fn place(outcome: Outcome) -> String {
+    match outcome {
+        Outcome::Undecided => SPENT.to_string(),
+        verdict => verdict.to_string(),
+    }
+}
+
+fn read_place(words: &str) -> Option<Outcome> {
+    match words.split_once(' ')? {
+        ("equal", rounds) => Some(Outcome::Equal(rounds.parse().ok()?)),
+        ("different", rounds) => Some(Outcome::Different(rounds.parse().ok()?)),
+        _ => (words == SPENT).then_some(Outcome::Undecided),
+    }
+}
+
+fn read_given(words: &str) -> Option<Answer> {
+    let places: Vec<&str> = words.split(" | ").collect();
+    let &[strong, weak, nodes] = places.as_slice() else { return None };
+    let strong = read_place(strong.strip_prefix("strong ")?)?;
+    let weak = read_place(weak.strip_prefix("weak ")?)?;
+    Some(Answer::Given { strong, weak, nodes: nodes.parse().ok()? })
+}
+
+fn read_refused(words: &str) -> Option<Answer> {
+    let numbers: Vec<&str> = words.strip_prefix("refused ")?.split(' ').collect();
+    let &[number, side, line] = numbers.as_slice() else { return None };
+    let number = number.parse().ok().filter(|number| (1..=8).contains(number))?;
+    let side = side.parse().ok().filter(|side| (0..=2).contains(side))?;
+    Some(Answer::Refused { number, side, line: line.parse().ok()? })
 }
 
 impl std::str::FromStr for Answer {
     type Err = ();
 
     fn from_str(words: &str) -> Result<Answer, ()> {
-        let (kind, rest) = words.split_once(' ').ok_or(())?;
-        let numbers: Result<Vec<u64>, _> = rest.split(' ').map(str::parse).collect();
-        match (kind, numbers.map_err(|_| ())?.as_slice()) {
-            ("equal", &[rounds, nodes]) => Ok(Answer::Equal { rounds, nodes: nodes as usize }),
-            ("different", &[rounds, nodes]) => Ok(Answer::Different { rounds, nodes: nodes as usize }),
-            ("refused", &[number @ 1..=9, side @ 0..=2, line]) => {
-                Ok(Answer::Refused { number: number as u8, side: side as u8, line: line as usize })
-            }
-            _ => Err(()),
-        }
+        read_given(words).or_else(|| read_refused(words)).ok_or(())
     }
 }
 
 impl fmt::Display for Answer {
     fn fmt(&self, f: &mut fmt::Formatter) -> fmt::Result {
-        match self {
-            Answer::Equal { rounds, nodes } => write!(f, "equal {rounds} {nodes}"),
-            Answer::Different { rounds, nodes } => write!(f, "different {rounds} {nodes}"),
+        match *self {
+            Answer::Given { strong, weak, nodes } => {
+                write!(f, "strong {} | weak {} | {nodes}", place(strong), place(weak))
+            }
             Answer::Refused { number, side, line } => write!(f, "refused {number} {side} {line}"),
         }
     }
 }
 
-/// An answer, and whether the explicit states gave its verdict too.
+impl Answer {
+    fn new(Outcomes { strong, weak }: Outcomes, nodes: usize) -> Answer {
+        Answer::Given { strong, weak, nodes }
+    }
+
+    /// What the program prints of each mode, strong first, after the mode's name.
+    pub fn lines(&self) -> [String; 2] {
+        match *self {
+            Answer::Given { strong, weak, nodes } => [strong, weak].map(|outcome| match outcome {
+                Outcome::Undecided => place(outcome),
+                verdict => format!("{verdict} {nodes}"),
+            }),
+            refused => [refused.to_string(), refused.to_string()],
+        }
+    }
+}
+
+pub const UNFIT: Answer = Answer::Refused { number: 7, side: 2, line: 0 };
+const FULL: Answer = Answer::Refused { number: 8, side: 2, line: 0 };
+
+/// An answer, and whether the explicit states gave its verdicts too.
 #[derive(Clone, Copy, Debug, PartialEq, Eq)]
 pub struct Checked {
     pub answer: Answer,
     pub explicit: bool,
 }
 
-/// What is known of two texts in one mode, whatever limit and table.
+/// What is known of two texts, whatever limit and table.
 #[derive(Clone, Debug)]
 pub enum Known {
     Refused(Answer),
     Traced(Trace),
 }
 
-/// Reads the texts and evaluates the whole list, as far as there is room.
-/// Where the explicit states give a verdict too, it has to be the same.
-pub fn known(left: &[u8], right: &[u8], mode: Mode, room: usize) -> Known {
-    let (left, right) = match (read_side(left, 0), read_side(right, 1)) {
-        (Ok(left), Ok(right)) => (left, right),
-        (Err(answer), _) | (_, Err(answer)) => return Known::Refused(answer),
+/// Reads the texts and evaluates the joined list, as far as there is room.
+/// Where the explicit states give verdicts too, they have to be the same.
+pub fn known(left: &[u8], right: &[u8], room: usize) -> Known {
+    let (left, right) = match read_both(left, right) {
+        Ok(models) => models,
+        Err(answer) => return Known::Refused(answer),
     };
-    let trace = list::trace(&left, &right, mode, room);
-    if let (Ok(by_list), Some(by_pairs)) = (trace.end, decide(&left, &right, mode, u64::MAX)) {
-        assert_eq!(by_pairs, by_list, "explicit pairs and list disagree");
+    let trace = list::trace(&left, &right, room);
+    let last = trace.nodes.len().saturating_sub(1) as u64;
+    if let Some(by_pairs) = decide_both(&left, &right, if trace.full { last } else { u64::MAX }) {
+        assert_eq!(by_pairs, trace.outcomes, "explicit pairs and list disagree");
     }
     Known::Traced(trace)
 }
@@ -76,49 +135,34 @@ impl Trace {
     /// The answer by this limit on a table of this length, which is at least 2;
     /// if the list ended without room, it is not longer than that room and 2.
     pub fn answer(&self, limit: u64, length: usize) -> Answer {
-        let refused = |number| Answer::Refused { number, side: 2, line: 0 };
         let last = self.nodes.len() as u64;
         let nodes = match self.nodes.get(limit.min(last) as usize) {
             Some(&nodes) => nodes,
-            None if self.end.is_err() => return refused(8),
+            None if self.full => return FULL,
             None => self.nodes[last as usize - 1],
         };
         if nodes > length - 2 {
-            return refused(8);
+            return FULL;
         }
-        match self.end {
-            Ok(Outcome::Equal(rounds)) if rounds <= limit => Answer::Equal { rounds, nodes },
-            Ok(Outcome::Different(rounds)) if rounds <= limit => Answer::Different { rounds, nodes },
-            _ => refused(9),
-        }
+        let Outcomes { strong, weak } = self.outcomes;
+        Answer::new(Outcomes { strong: strong.by(limit), weak: weak.by(limit) }, nodes)
     }
 }
 
 /// Compares two texts; `lens` are the lengths of the three table slices.
-pub fn compare(left: &[u8], right: &[u8], mode: u64, limit: u64, lens: (usize, usize, usize)) -> Answer {
-    compare_checked(left, right, mode, limit, lens).answer
+pub fn compare(left: &[u8], right: &[u8], limit: u64, lens: (usize, usize, usize)) -> Answer {
+    compare_checked(left, right, limit, lens).answer
 }
 
-pub fn compare_checked(
-    left: &[u8],
-    right: &[u8],
-    mode: u64,
-    limit: u64,
-    lens: (usize, usize, usize),
-) -> Checked {
+pub fn compare_checked(left: &[u8], right: &[u8], limit: u64, lens: (usize, usize, usize)) -> Checked {
     let refused = |answer| Checked { answer, explicit: false };
-    let Some(mode) = mode_of(mode).filter(|_| table_fits(lens)) else {
-        return refused(Answer::Refused { number: 7, side: 2, line: 0 });
-    };
-    let left = match read_side(left, 0) {
-        Ok(model) => model,
-        Err(answer) => return refused(answer),
-    };
-    let right = match read_side(right, 1) {
-        Ok(model) => model,
-        Err(answer) => return refused(answer),
-    };
-    compare_models(&left, &right, mode, limit, lens.0 - 2)
+    if !table_fits(lens) {
+        return refused(UNFIT);
+    }
+    match read_both(left, right) {
+        Ok((left, right)) => compare_models(&left, &right, limit, lens.0 - 2),
+        Err(answer) => refused(answer),
+    }
 }
 
 pub fn mode_of(number: u64) -> Option<Mode> {
@@ -145,29 +189,35 @@ pub fn told(read: &Result<Model, Refusal>) -> [u64; 7] {
     }
 }
 
-fn read_side(text: &[u8], side: u8) -> Result<Model, Answer> {
-    reader::read(text).map_err(|Refusal { number, line }| Answer::Refused { number, side, line })
+/// Both models, or the refusal that is due, the left text's first.
+fn read_both(left: &[u8], right: &[u8]) -> Result<(Model, Model), Answer> {
+    let side = |text, side| {
+        reader::read(text).map_err(|Refusal { number, line }| Answer::Refused { number, side, line })
+    };
+    Ok((side(left, 0)?, side(right, 1)?))
 }
 
-/// Verdict and rounds of the explicit pairs if there are few enough, else of the list.
+/// Verdicts and rounds of the explicit pairs if there are few enough, else of the list.
 /// Where both are known they have to be the same.
-pub fn compare_models(left: &Model, right: &Model, mode: Mode, limit: u64, room: usize) -> Checked {
-    let Ok((by_list, nodes)) = list::evaluate(left, right, mode, limit, room) else {
-        return Checked { answer: Answer::Refused { number: 8, side: 2, line: 0 }, explicit: false };
+pub fn compare_models(left: &Model, right: &Model, limit: u64, room: usize) -> Checked {
+    let Ok((by_list, nodes)) = list::evaluate(left, right, limit, room) else {
+        return Checked { answer: FULL, explicit: false };
     };
-    let by_pairs = decide(left, right, mode, limit);
-    if let Some(outcome) = by_pairs {
-        assert_eq!(outcome, by_list, "explicit pairs and list disagree");
+    let by_pairs = decide_both(left, right, limit);
+    if let Some(outcomes) = by_pairs {
+        assert_eq!(outcomes, by_list, "explicit pairs and list disagree");
     }
-    let answer = match by_pairs.unwrap_or(by_list) {
-        Outcome::Equal(rounds) => Answer::Equal { rounds, nodes },
-        Outcome::Different(rounds) => Answer::Different { rounds, nodes },
-        Outcome::Undecided => Answer::Refused { number: 9, side: 2, line: 0 },
-    };
-    Checked { answer, explicit: by_pairs.is_some() }
+    Checked { answer: Answer::new(by_pairs.unwrap_or(by_list), nodes), explicit: by_pairs.is_some() }
 }
 
-/// The explicit verdict; none if the models are too large.
+/// The explicit verdicts of both modes; none if the models are too large.
+fn decide_both(left: &Model, right: &Model, limit: u64) -> Option<Outcomes> {
+    let (left, right) = (steps::derive(left)?, steps::derive(right)?);
+    let decide = |mode| bisim::decide(&left, &right, mode, limit);
+    Some(Outcomes { strong: decide(Mode::Strong)?, weak: decide(Mode::Weak)? })
+}
+
+/// The explicit verdict of one mode; none if the models are too large.
 pub fn decide(left: &Model, right: &Model, mode: Mode, limit: u64) -> Option<Outcome> {
     bisim::decide(&steps::derive(left)?, &steps::derive(right)?, mode, limit)
 }

@@ -1,7 +1,6 @@
 //! Generated comparisons with all that is lent to them, and their expected answers.
 
-use crate::answer::{known, mode_of, table_fits, Answer, Known, MAX_TABLE};
-use crate::bisim::Mode;
+use crate::answer::{known, table_fits, Answer, Known, MAX_TABLE, UNFIT, WORDS};
 use crate::generate::{chain_pair, malformed, pair, text, wide_pair};
 use crate::random::Random;
 use crate::reader::read;
@@ -9,12 +8,10 @@ use crate::reader::read;
 /// The arguments of a call that are not texts; lengths are in elements.
 #[derive(Clone, Debug)]
 pub struct Call {
-    pub mode: u64,
     pub limit: u64,
     /// Level, low and high.
     pub table: [usize; 3],
-    /// Head, next and memo.
-    pub work: [usize; 3],
+    pub work: usize,
     /// Words of the answer.
     pub words: usize,
 }
@@ -23,10 +20,10 @@ impl Call {
     /// None where the answer has too few words.
     pub fn expected(&self, known: &Known) -> Option<Answer> {
         let [level, low, high] = self.table;
-        if self.words < 6 {
+        if self.words < WORDS {
             None
-        } else if mode_of(self.mode).is_none() || !table_fits((level, low, high)) {
-            Some(Answer::Refused { number: 7, side: 2, line: 0 })
+        } else if !table_fits((level, low, high)) {
+            Some(UNFIT)
         } else {
             Some(match known {
                 Known::Refused(answer) => *answer,
@@ -36,35 +33,49 @@ impl Call {
     }
 }
 
-/// Two texts with what is known of them in one mode.
+/// Two texts with what is known of them.
 pub struct Pair {
     pub left: Vec<u8>,
     pub right: Vec<u8>,
-    pub mode: u64,
     pub known: Known,
 }
 
 /// Lists that need more nodes are given up; few generated ones do.
-const ROOM: usize = 1 << 17;
+const ROOM: usize = 1 << 18;
 
 impl Pair {
-    pub fn new(left: Vec<u8>, right: Vec<u8>, mode: Mode) -> Pair {
-        let known = known(&left, &right, mode, ROOM);
-        Pair { left, right, mode: mode as u64, known }
+    pub fn new(left: Vec<u8>, right: Vec<u8>) -> Pair {
+        let known = known(&left, &right, ROOM);
+        Pair { left, right, known }
     }
 
-    /// Nodes needed up to the verdict, or all the room if they do not fit into it.
+    /// Nodes needed up to both verdicts, or all the room if they do not fit into it.
     pub fn needed(&self) -> usize {
         match &self.known {
-            Known::Traced(trace) if trace.end.is_ok() => trace.nodes.last().copied().unwrap_or(0),
-            Known::Traced(_) => ROOM,
+            Known::Traced(trace) if trace.full => ROOM,
+            Known::Traced(trace) => trace.nodes.last().copied().unwrap_or(0),
             Known::Refused(_) => 0,
         }
     }
 
-    /// Whether the list was evaluated up to a verdict.
-    pub fn has_verdict(&self) -> bool {
-        matches!(&self.known, Known::Traced(trace) if trace.end.is_ok())
+    /// Nodes needed by this limit, or by the last one that there is room for.
+    fn needed_by(&self, limit: u64) -> usize {
+        let Known::Traced(trace) = &self.known else { return 0 };
+        let last = trace.nodes.len().saturating_sub(1);
+        trace.nodes.get(limit.min(last as u64) as usize).copied().unwrap_or(0)
+    }
+
+    /// Whether the list was evaluated up to both verdicts.
+    pub fn has_verdicts(&self) -> bool {
+        matches!(&self.known, Known::Traced(trace) if !trace.full)
+    }
+
+    /// A limit up to one past the last iterate; by a lower one some mode has no verdict.
+    fn early_limit(&self, random: &mut Random) -> u64 {
+        match &self.known {
+            Known::Traced(trace) => random.below(trace.nodes.len() + 1) as u64,
+            Known::Refused(_) => 0,
+        }
     }
 
     /// The product of the two numbers of states; 1 if a text is refused.
@@ -76,7 +87,6 @@ impl Pair {
 
 /// A pair of any sort; in one of eight a text is likely refused.
 pub fn any_pair(random: &mut Random) -> Pair {
-    let mode = random.pick(&[Mode::Strong, Mode::Weak]);
     let budget = random.pick(&[2, 3, 4, 5, 6]);
     let (left, right) = match random.below(128) {
         0 | 1 => pair(random, 9),
@@ -91,21 +101,26 @@ pub fn any_pair(random: &mut Random) -> Pair {
         2 => (left, right) = (malformed(random), malformed(random)),
         _ => {}
     }
-    Pair::new(left, right, mode)
+    Pair::new(left, right)
 }
 
 /// A pair of small accepted models, whose look-ups are all made.
 pub fn small_pair(random: &mut Random, budget: u32) -> Pair {
-    let mode = random.pick(&[Mode::Strong, Mode::Weak]);
     let (left, right) = pair(random, budget);
-    Pair::new(text(&left), text(&right), mode)
+    Pair::new(text(&left), text(&right))
 }
 
 /// The call without a limit on a table that the list just fits.
 pub fn fitting(random: &mut Random, pair: &Pair) -> Call {
     let length = pair.needed() + 2;
-    let words = random.pick(&[6, 6, 6, 7, 9, 20]);
-    Call { mode: pair.mode, limit: u64::MAX, table: [length; 3], work: work(random, length), words }
+    let words = random.pick(&[WORDS, WORDS, WORDS, WORDS + 1, WORDS + 3, 2 * WORDS]);
+    Call { limit: u64::MAX, table: [length; 3], work: work(random, length), words }
+}
+
+/// A call by which a mode likely has no verdict, on a table that the list just fits.
+pub fn early(random: &mut Random, pair: &Pair) -> Call {
+    let limit = pair.early_limit(random);
+    Call { limit, table: [pair.needed_by(limit) + 2; 3], ..fitting(random, pair) }
 }
 
 /// Fitting and just not fitting, a limit at an edge, and one call more of any sort.
@@ -113,38 +128,35 @@ pub fn calls(random: &mut Random, pair: &Pair) -> Vec<Call> {
     let length = pair.needed() + 2;
     let fits = fitting(random, pair);
     let full = Call { table: [length - 1; 3], work: work(random, length), ..fits.clone() };
-    let limit = random.pick(&[0, 1, 2, pair.product(), u64::MAX]);
+    let early = pair.early_limit(random);
+    let limit = random.pick(&[0, 1, 2, early, early, pair.product(), u64::MAX]);
     let limited = Call { limit, work: work(random, length), ..fits.clone() };
     let any = other(random, pair, &limited);
     vec![fits, full, limited, any]
 }
 
-/// Lengths of the work slices, each on its own: none, one, odd and large.
+/// The length of the work slice: none, one, odd and large.
 /// A large list takes long with little work memory, so it seldom or never has less than two words an entry.
-pub fn work(random: &mut Random, length: usize) -> [usize; 3] {
-    let little = length <= 400 || length <= 2000 && random.once_in(16);
-    [0; 3].map(|_| {
-        let odd = 2 * random.below(length) + 1;
-        let enough = 2 * length + 2;
-        let large = 4 * length + random.below(1000);
-        if little {
-            random.pick(&[0, 1, odd, length, large])
-        } else {
-            random.pick(&[enough, enough | 1, large])
-        }
-    })
+pub fn work(random: &mut Random, length: usize) -> usize {
+    let odd = 2 * random.below(length) + 1;
+    let enough = 2 * length + 2;
+    let large = 4 * length + random.below(1000);
+    if length <= 400 || length <= 2000 && random.once_in(16) {
+        random.pick(&[0, 1, odd, length, large])
+    } else {
+        random.pick(&[enough, enough | 1, large])
+    }
 }
 
 /// A longer table, a table that a limited list just fits or not, a call that refusal 7 is due of, or too few words.
 fn other(random: &mut Random, pair: &Pair, call: &Call) -> Call {
     let mut other = call.clone();
     match random.below(8) {
-        0 => other.mode = random.pick(&[2, 3, 255, 256, 1 << 32, (1 << 32) + 1, u64::MAX]),
-        1 => other.table = [random.below(2); 3],
-        2 => other.table = unequal(random, call.table[0]),
-        3 => other.words = random.below(6),
-        4 => other.table = long(random, pair),
-        5 if pair.has_verdict() => other.table = [call.table[0] + random.below(1000); 3],
+        0 => other.table = [random.below(2); 3],
+        1 => other.table = unequal(random, call.table[0]),
+        2 => other.words = random.below(WORDS),
+        3 => other.table = long(random, pair),
+        4 if pair.has_verdicts() => other.table = [call.table[0] + random.below(1000); 3],
         _ => other.table = at_limit(random, pair, call),
     }
     other
@@ -160,7 +172,7 @@ fn unequal(random: &mut Random, length: usize) -> [usize; 3] {
 /// At times the longest table, or one that is too long by an entry.
 fn long(random: &mut Random, pair: &Pair) -> [usize; 3] {
     match random.below(32) {
-        0 if pair.has_verdict() => [MAX_TABLE; 3],
+        0 if pair.has_verdicts() => [MAX_TABLE; 3],
         1 => [MAX_TABLE + 1; 3],
         2 => [MAX_TABLE, MAX_TABLE + 1, MAX_TABLE],
         _ => [pair.needed() + 2; 3],
@@ -169,12 +181,10 @@ fn long(random: &mut Random, pair: &Pair) -> [usize; 3] {
 
 /// What the list up to the call's limit needs, or an entry less.
 fn at_limit(random: &mut Random, pair: &Pair, call: &Call) -> [usize; 3] {
-    let Known::Traced(trace) = &pair.known else {
+    if matches!(pair.known, Known::Refused(_)) {
         return [2 + random.below(100); 3];
-    };
-    let last = trace.nodes.len().saturating_sub(1);
-    let needed = trace.nodes.get(call.limit.min(last as u64) as usize).copied().unwrap_or(0);
-    [needed + 1 + random.below(2); 3]
+    }
+    [pair.needed_by(call.limit) + 1 + random.below(2); 3]
 }
 
 #[cfg(test)]
@@ -189,9 +199,9 @@ mod tests {
             let pair = any_pair(&mut random);
             for call in calls(&mut random, &pair) {
                 let [level, low, high] = call.table;
-                let direct = compare(&pair.left, &pair.right, call.mode, call.limit, (level, low, high));
+                let direct = compare(&pair.left, &pair.right, call.limit, (level, low, high));
                 let expected = call.expected(&pair.known);
-                assert_eq!(expected, (call.words >= 6).then_some(direct), "{call:?}");
+                assert_eq!(expected, (call.words >= WORDS).then_some(direct), "{call:?}");
             }
         }
     }

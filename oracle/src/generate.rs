@@ -40,19 +40,20 @@ pub fn model(random: &mut Random, budget: u32) -> Vec<Frame> {
     builder.frames
 }
 
-/// A model with a line of exactly so many bits: leaves joined one by one. In one of three a small last line follows, which
-/// does not use them.
+/// A model with a line of exactly so many bits: leaves joined one by one, in half of the models most of them without
+/// steps, so that their list is small. In one of three a small last line follows, which does not use them.
 pub fn wide(random: &mut Random, bits: u32) -> Vec<Frame> {
     let mut builder = Builder::new(random, bits);
-    let mut joined = builder.add_narrow_leaf(bits);
+    let triples: &[usize] = if builder.random.once_in(2) { &[0, 0, 0, 0, 1] } else { &[0, 1, 2] };
+    let mut joined = builder.add_narrow_leaf(bits, triples);
     while builder.bits[joined] < bits {
-        let leaf = builder.add_narrow_leaf(bits - builder.bits[joined]);
+        let leaf = builder.add_narrow_leaf(bits - builder.bits[joined], triples);
         let kind = builder.random.pick(&[COMPOSE, JOINT]);
         let (body, sum) = builder.binary(kind, joined, leaf);
         joined = builder.add(body, sum);
     }
     if builder.random.once_in(3) {
-        builder.add_narrow_leaf(2);
+        builder.add_narrow_leaf(2, triples);
     }
     builder.frames
 }
@@ -102,13 +103,13 @@ impl<'a> Builder<'a> {
         self.add(body, bits);
     }
 
-    /// A leaf of 1 to `most` bits, mostly 1, with few triples.
-    fn add_narrow_leaf(&mut self, most: u32) -> usize {
+    /// A leaf of 1 to `most` bits, mostly 1, with one of these numbers of triples.
+    fn add_narrow_leaf(&mut self, most: u32, triples: &[usize]) -> usize {
         let any = 1 + self.random.below(most.min(6) as usize) as u32;
         let bits = self.random.pick(&[1, 1, any]);
         let states = (1 << (bits - 1)) + 1 + self.random.below(1 << (bits - 1)) as u8;
         let mut body = vec![LEAF, states];
-        for _ in 0..self.random.below(3) {
+        for _ in 0..self.random.pick(triples) {
             body.extend(self.triple(states));
         }
         self.add(body, bits)
@@ -274,17 +275,11 @@ pub fn chain_pair(random: &mut Random) -> (Vec<Frame>, Vec<Frame>) {
     (vec![chain], vec![other])
 }
 
-/// A pair of accepted models with mode, limit and table length.
+/// A pair of accepted models with limit and table length.
 pub fn sound_case(random: &mut Random) -> Case {
     let budget = random.pick(&[2, 3, 4, 5, 6]);
     let (left, right) = pair(random, budget);
-    let mut case = Case {
-        left: text(&left),
-        right: text(&right),
-        mode: random.below(2) as u64,
-        limit: LIMIT,
-        length: LENGTH,
-    };
+    let mut case = Case { left: text(&left), right: text(&right), limit: LIMIT, length: LENGTH };
     if random.once_in(3) {
         tighten(random, &mut case);
     }
@@ -293,9 +288,8 @@ pub fn sound_case(random: &mut Random) -> Case {
 
 /// Moves limit or table length to an edge of the answer.
 fn tighten(random: &mut Random, case: &mut Case) {
-    let (Answer::Equal { rounds, nodes } | Answer::Different { rounds, nodes }) = case.run().answer else {
-        return;
-    };
+    let Answer::Given { strong, weak, nodes } = case.run().answer else { return };
+    let rounds = random.pick(&[strong, weak]).rounds();
     match random.below(6) {
         0 => case.length = nodes + 2,
         1 => case.length = (nodes + 1).max(2),
@@ -312,10 +306,10 @@ fn bad_call(random: &mut Random) -> Case {
     if random.once_in(3) {
         case.left = malformed(random);
     }
-    match random.below(3) {
-        0 => case.mode = 2 + random.draw() % 300,
-        1 => case.length = random.below(2),
-        _ => case.length = MAX_TABLE + 1 + random.below(1000),
+    if random.once_in(2) {
+        case.length = random.below(2);
+    } else {
+        case.length = MAX_TABLE + 1 + random.below(1000);
     }
     case
 }

@@ -1,7 +1,7 @@
-//! An explicit-state program for comparing models, written from document 01 and document 02's point 1 alone.
+//! An explicit-state program for comparing models, written from document 01 and document 02's points 1 and 2 alone.
 //!
-//! The verdict comes from an iteration over explicit pairs of states (`bisim`).
-//! The node count comes from evaluating the list of functions (`list`).
+//! The verdicts come from an iteration over explicit pairs of states (`bisim`).
+//! The node count comes from evaluating the joined list of functions (`list`).
 
 pub mod answer;
 pub mod bisim;
@@ -13,6 +13,7 @@ pub mod generate;
 pub mod list;
 pub mod lookup;
 pub mod model;
+pub mod program;
 pub mod random;
 pub mod reader;
 pub mod requests;

@@ -13,8 +13,8 @@ use oracle::vectors::Rerun;
 use oracle::{compare, generate, largest, reader, requests, steps, vectors};
 
 const USAGE: &str = "usage:
-  oracle compare LEFT RIGHT MODE LIMIT L
-  oracle list LEFT RIGHT MODE LIMIT NODES
+  oracle compare LEFT RIGHT LIMIT L
+  oracle list LEFT RIGHT LIMIT NODES
   oracle verdict LEFT RIGHT MODE LIMIT
   oracle steps MODEL
   oracle pairs LEFT RIGHT MODE
@@ -25,7 +25,8 @@ const USAGE: &str = "usage:
   oracle stream texts|comparisons|shown|tables SEED FIRST COUNT
   oracle stream vectors|requests FILE SEED
 
-list evaluates the whole list with room for so many nodes, also for more than a table holds.
+compare and list answer with both verdicts. list evaluates the joined list with room for so many nodes, also for more
+than a table holds. In verdict and pairs MODE is 0 (strong) or 1 (weak).
 stream writes cases with their expected answers as records for tests/c/runner.c.";
 
 const TOO_LARGE: &str = "too large to enumerate";
@@ -48,16 +49,14 @@ fn main() -> ExitCode {
 
 fn run(words: &[&str]) -> Done {
     match *words {
-        ["compare", left, right, mode, limit, length] => {
+        ["compare", left, right, limit, length] => {
             let length = number(length)?;
-            let lens = (length, length, length);
-            let answer = compare(&bytes(left)?, &bytes(right)?, number(mode)?, number(limit)?, lens);
-            println!("{answer}");
+            println!("{}", compare(&bytes(left)?, &bytes(right)?, number(limit)?, (length, length, length)));
             Ok(true)
         }
-        ["list", left, right, mode, limit, room] => {
-            let (mode, limit) = (mode_number(mode)?, number(limit)?);
-            println!("{}", compare_models(&model(left)?, &model(right)?, mode, limit, number(room)?).answer);
+        ["list", left, right, limit, room] => {
+            let checked = compare_models(&model(left)?, &model(right)?, number(limit)?, number(room)?);
+            println!("{}", checked.answer);
             Ok(true)
         }
         ["verdict", left, right, mode, limit] => {

@@ -5,14 +5,16 @@ use std::collections::BTreeMap;
 use std::str::FromStr;
 
 use crate::lookup::{look_up, Ask};
+use crate::program::Files;
 use crate::tables::{Entry, Table};
-use crate::vectors::{unescape, Case, Rerun};
+use crate::vectors::{escape_lines, unescape, Case, Rerun};
 
 #[derive(Clone, Debug)]
 pub enum Call {
-    /// A comparison in one mode.
     Compare(Case),
     LookUp(Table, Ask),
+    /// A run of the program; its lines stand in the answer, `/` for their ends.
+    Program(Files),
 }
 
 /// One line of a file of requests.
@@ -30,8 +32,9 @@ pub fn parse(line: &str) -> Option<Request> {
     request.parse::<u8>().ok()?;
     let arguments = Arguments(arguments.iter().map(|word| word.split_once('=')).collect::<Option<_>>()?);
     let call = match *call {
-        "compare1" => Call::Compare(arguments.case()?),
+        "compare" => Call::Compare(arguments.case()?),
         "lookup" => Call::LookUp(arguments.table()?, arguments.ask()?),
+        "program" => Call::Program(Files { left: arguments.file("left")?, right: arguments.file("right")? }),
         _ => return None,
     };
     Some(Request { name: name.to_string(), call, expected: expected.to_string() })
@@ -44,6 +47,10 @@ pub fn rerun(line: &str) -> Option<Rerun> {
         Call::Compare(case) => case.rerun(name, expected),
         Call::LookUp(table, ask) => {
             Rerun { name, expected, got: words(look_up(&table.slices(), &ask)), explicit: false }
+        }
+        Call::Program(files) => {
+            let (printed, explicit) = files.run();
+            Rerun { name, expected, got: escape_lines(&printed), explicit }
         }
     })
 }
@@ -66,10 +73,17 @@ impl Arguments<'_> {
         Some(Case {
             left: unescape(self.0.get("left")?)?,
             right: unescape(self.0.get("right")?)?,
-            mode: self.number("mode")?,
             limit: self.number("limit")?,
             length: self.number("L")?,
         })
+    }
+
+    /// A file's bytes; `-` is a missing file. None if the argument is missing or malformed.
+    fn file(&self, name: &str) -> Option<Option<Vec<u8>>> {
+        match *self.0.get(name)? {
+            "-" => Some(None),
+            text => Some(Some(unescape(text)?)),
+        }
     }
 
     fn ask(&self) -> Option<Ask> {
@@ -126,13 +140,24 @@ mod tests {
 
     #[test]
     fn comparisons_are_read_from_their_arguments() {
-        let arguments = "left=000101/\tright=000101/\tmode=1\tlimit=1000000\tL=14";
+        let arguments = "left=000101/\tright=000101/\tlimit=1000000\tL=14";
+        let answer = "strong equal 1 | weak equal 1 | 12";
         let rerun_as =
-            |request: &str, call: &str| rerun(&format!("{request}\tP1\t{call}\t{arguments}\tequal 1 12"));
-        let rerun = rerun_as("1", "compare1").expect("well formed");
-        assert_eq!((rerun.got, rerun.expected), ("equal 1 12".to_string(), "equal 1 12".to_string()));
-        assert!(rerun_as("1", "compare").is_none());
-        assert!(rerun_as("one", "compare1").is_none());
+            |request: &str, call: &str| rerun(&format!("{request}\tP1\t{call}\t{arguments}\t{answer}"));
+        let rerun = rerun_as("2", "compare").expect("well formed");
+        assert_eq!((rerun.got.as_str(), rerun.expected.as_str()), (answer, answer));
+        assert!(rerun_as("2", "compare1").is_none());
+        assert!(rerun_as("two", "compare").is_none());
+    }
+
+    #[test]
+    fn runs_of_the_program_are_read_from_their_files() {
+        let printed = |files: &str| rerun(&format!("2\tname\tprogram\t{files}\t")).map(|rerun| rerun.got);
+        assert_eq!(printed("left=-\tright=").as_deref(), Some("no input left/"));
+        assert_eq!(printed("left=\tright=-").as_deref(), Some("no input right/"));
+        let both = printed("left=000101/\tright=000101/");
+        assert_eq!(both.as_deref(), Some("strong equal 1 12/weak equal 1 12/"));
+        assert_eq!(printed("left=000101/"), None);
     }
 
     #[test]

@@ -3,18 +3,19 @@
 
 use std::io::{self, Write};
 
-use crate::answer::{largest, mode_of, told, Answer, Known, MAX_TABLE};
-use crate::calls::{any_pair, calls, fitting, small_pair, work, Call, Pair};
+use crate::answer::{compare_models, largest, told, Answer, MAX_TABLE, WORDS};
+use crate::bisim::{Mode, Outcome};
+use crate::calls::{any_pair, calls, early, fitting, small_pair, work, Call, Pair};
 use crate::codes::holds;
 use crate::lookup::{look_up, Ask};
 use crate::model::Model;
 use crate::random::Random;
 use crate::reader::read;
+use crate::requests;
 use crate::steps::{derive, Step};
 use crate::tables::{any_ask, any_table, Table};
 use crate::texts::any_text;
 use crate::vectors::{self, is_vector, Case};
-use crate::{list, requests};
 
 const TEXT: u64 = 1;
 const PAIR: u64 = 2;
@@ -24,7 +25,9 @@ const TABLE: u64 = 5;
 const ASK: u64 = 6;
 const END: u64 = 7;
 
-/// What a call returns if its answer has too few words.
+/// What a call returns: answered, refused, or too few words for the answer.
+const ANSWERED: u64 = 0;
+const REFUSED: u64 = 2;
 const SHORT: u64 = 3;
 
 /// The text beside which a text is judged as the right one.
@@ -68,15 +71,17 @@ impl<W: Write> Stream<W> {
         self.end()
     }
 
-    /// Comparisons of small pairs, after which every step and every pair of codes is looked up.
+    /// Comparisons of small pairs, after which every step is looked up, and every pair of codes in each mode that is equal.
     pub fn shown(&mut self, cases: Cases) -> io::Result<()> {
         for (case, mut random) in cases.each() {
             let budget = random.pick(&[2, 2, 3, 3, 3, 4]);
             let pair = small_pair(&mut random, budget);
             self.pair(case, &pair.left, &pair.right)?;
-            let call = fitting(&mut random, &pair);
-            self.call(&mut random, &call, call.expected(&pair.known))?;
-            if let Some(shown) = Shown::new(&pair) {
+            let call =
+                if random.once_in(3) { early(&mut random, &pair) } else { fitting(&mut random, &pair) };
+            let answer = call.expected(&pair.known);
+            self.call(&mut random, &call, answer)?;
+            if let Some(shown) = answer.and_then(|answer| Shown::new(&pair, answer)) {
                 self.show(&mut random, &shown)?;
             }
         }
@@ -112,6 +117,12 @@ impl<W: Write> Stream<W> {
             let request = requests::parse(line).ok_or_else(|| malformed(number))?;
             match &request.call {
                 requests::Call::Compare(case) => self.case(number, seed, case, &request.expected)?,
+                // The program's comparison; what it prints of it is the program's own test.
+                requests::Call::Program(files) => {
+                    if let Some(case) = files.case() {
+                        self.case(number, seed, &case, &case.run().answer.to_string())?;
+                    }
+                }
                 requests::Call::LookUp(table, ask) => {
                     let value = requests::looked_up(&request.expected).ok_or_else(|| malformed(number))?;
                     self.table(number, table)?;
@@ -130,7 +141,7 @@ impl<W: Write> Stream<W> {
         let length = case.length.min(MAX_TABLE + 1);
         let work = work(&mut random, entries(answer, length));
         self.pair(number, &case.left, &case.right)?;
-        let call = Call { mode: case.mode, limit: case.limit, table: [length; 3], work, words: 7 };
+        let call = Call { limit: case.limit, table: [length; 3], work, words: WORDS + 1 };
         self.call(&mut random, &call, Some(answer))
     }
 
@@ -154,17 +165,18 @@ impl<W: Write> Stream<W> {
         self.0.flush()
     }
 
-    /// What is told of the text; and, if it is accepted, what a comparison with limit 0 beside another text says, in this
-    /// mode on a table of this length.
+    /// What is told of the text; and, if it is accepted, what a comparison with limit 0 beside another text says, on a
+    /// table of this length.
     fn text(&mut self, case: u64, random: &mut Random) -> io::Result<()> {
         let text = any_text(random);
-        let (mode, length) = (random.below(2) as u64, 2 + random.below(8));
+        let length = 2 + random.below(40);
         let read = read(&text);
-        let beside = read.as_ref().map_or(0, |model| beside(model, mode, length));
+        let beside = read.as_ref().ok().map(|model| beside(model, length));
         self.numbers(&[TEXT, case])?;
         self.bytes(&text)?;
         self.numbers(&told(&read))?;
-        self.numbers(&[mode, length as u64, beside])
+        self.number(length as u64)?;
+        self.numbers(&expected(beside))
     }
 
     fn pair(&mut self, case: u64, left: &[u8], right: &[u8]) -> io::Result<()> {
@@ -173,25 +185,21 @@ impl<W: Write> Stream<W> {
         self.bytes(right)
     }
 
-    fn call(&mut self, random: &mut Random, call: &Call, expected: Option<Answer>) -> io::Result<()> {
-        self.numbers(&[CALL, call.mode, call.limit])?;
-        for length in call.table.iter().chain(&call.work).chain([&call.words]) {
-            self.number(*length as u64)?;
+    fn call(&mut self, random: &mut Random, call: &Call, answer: Option<Answer>) -> io::Result<()> {
+        self.numbers(&[CALL, call.limit])?;
+        for &length in call.table.iter().chain(&[call.work, call.words]) {
+            self.number(length as u64)?;
         }
         self.number(random.draw())?;
-        self.numbers(&match expected {
-            Some(Answer::Equal { rounds, nodes }) => [0, rounds, nodes as u64, 0],
-            Some(Answer::Different { rounds, nodes }) => [1, rounds, nodes as u64, 0],
-            Some(Answer::Refused { number, side, line }) => [2, number.into(), side.into(), line as u64],
-            None => [SHORT, 0, 0, 0],
-        })
+        self.numbers(&expected(answer))
     }
 
     fn show(&mut self, random: &mut Random, shown: &Shown) -> io::Result<()> {
         self.numbers(&[SHOWN, random.draw(), shown.left.0.into(), shown.right.0.into()])?;
         self.bytes(&shown.left.1)?;
         self.bytes(&shown.right.1)?;
-        self.bytes(&shown.pairs)
+        self.bytes(&shown.strong)?;
+        self.bytes(&shown.weak)
     }
 
     fn table(&mut self, case: u64, table: &Table) -> io::Result<()> {
@@ -221,42 +229,68 @@ fn malformed(number: u64) -> io::Error {
     io::Error::other(format!("line {number} is malformed"))
 }
 
+/// What a call returns, and five words: each mode's verdict with its rounds, strong before weak, and the nodes; or a refusal's
+/// number, side and line.
+fn expected(answer: Option<Answer>) -> [u64; 6] {
+    match answer {
+        Some(Answer::Given { strong, weak, nodes }) => {
+            [ANSWERED, verdict(strong), strong.rounds(), verdict(weak), weak.rounds(), nodes as u64]
+        }
+        Some(Answer::Refused { number, side, line }) => {
+            [REFUSED, number.into(), side.into(), line as u64, 0, 0]
+        }
+        None => [SHORT, 0, 0, 0, 0, 0],
+    }
+}
+
+fn verdict(outcome: Outcome) -> u64 {
+    match outcome {
+        Outcome::Equal(_) => 0,
+        Outcome::Different(_) => 1,
+        Outcome::Undecided => 9,
+    }
+}
+
 /// At most so many entries of a table of this length are used, and at least one is.
 fn entries(answer: Answer, length: usize) -> usize {
     match answer {
-        Answer::Equal { nodes, .. } | Answer::Different { nodes, .. } => nodes + 2,
-        Answer::Refused { number: 8 | 9, .. } => length,
+        Answer::Given { nodes, .. } => nodes + 2,
+        Answer::Refused { number: 8, .. } => length,
         Answer::Refused { .. } => length.clamp(1, 100),
     }
 }
 
-/// Refusal 8 or 9: whether the list up to B₀ fits into a table of this length.
-fn beside(model: &Model, mode: u64, length: usize) -> u64 {
+/// Refusal 8, or two verdicts that do not fall by limit 0: whether the list up to B₀ fits into a table of this length.
+fn beside(model: &Model, length: usize) -> Answer {
     let left = read(BESIDE).expect("accepted");
-    let mode = mode_of(mode).expect("0 or 1");
-    match list::evaluate(&left, model, mode, 0, length - 2) {
-        Ok(_) => 9,
-        Err(list::Full) => 8,
-    }
+    compare_models(&left, model, 0, length - 2).answer
 }
 
-/// What the table of a verdict shows: a byte a look-up, for every code of each model's bits.
+/// What the table of an answer shows: a byte a look-up, for every code of each model's bits.
 struct Shown {
     /// Bits, and values by now code, action and next code.
     left: (u32, Vec<u8>),
     right: (u32, Vec<u8>),
-    /// Values by left and right now code; none unless the verdict is "equal".
-    pairs: Vec<u8>,
+    /// Values by left and right now code for each mode; none unless its verdict is "equal".
+    strong: Vec<u8>,
+    weak: Vec<u8>,
 }
 
 impl Shown {
-    /// None if there is no verdict or a model is too large.
-    fn new(pair: &Pair) -> Option<Shown> {
+    /// None if the answer shows nothing or a model is too large.
+    fn new(pair: &Pair, answer: Answer) -> Option<Shown> {
+        let Answer::Given { strong, weak, .. } = answer else { return None };
         let (left, right) = (read(&pair.left).ok()?, read(&pair.right).ok()?);
-        let Known::Traced(trace) = &pair.known else { return None };
-        let equal = matches!(trace.answer(u64::MAX, pair.needed() + 2), Answer::Equal { .. });
-        let pairs = if equal { related(&left, &right, pair.mode)? } else { vec![] };
-        pair.has_verdict().then_some(Shown { left: relation(&left)?, right: relation(&right)?, pairs })
+        let pairs = |outcome, mode| match outcome {
+            Outcome::Equal(_) => related(&left, &right, mode),
+            _ => Some(vec![]),
+        };
+        Some(Shown {
+            left: relation(&left)?,
+            right: relation(&right)?,
+            strong: pairs(strong, Mode::Strong)?,
+            weak: pairs(weak, Mode::Weak)?,
+        })
     }
 }
 
@@ -281,8 +315,8 @@ fn relation(model: &Model) -> Option<(u32, Vec<u8>)> {
 }
 
 /// Whether the largest bisimulation holds each pair of codes.
-fn related(left: &Model, right: &Model, mode: u64) -> Option<Vec<u8>> {
-    let largest = largest(left, right, mode_of(mode)?)?;
+fn related(left: &Model, right: &Model, mode: Mode) -> Option<Vec<u8>> {
+    let largest = largest(left, right, mode)?;
     let codes = |model: &Model| 0..1u32 << model.last().bits();
     let held = |x, y| u8::from(largest.binary_search(&(x, y)).is_ok());
     Some(codes(left).flat_map(|x| codes(right).map(move |y| held(x, y)).collect::<Vec<_>>()).collect())

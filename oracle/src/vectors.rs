@@ -1,4 +1,4 @@
-//! Files of expected answers: name, left, right, mode, limit, L and answer, parted by tabs.
+//! Files of expected answers: name, left, right, limit, L and answer, parted by tabs.
 
 use std::fmt::Write;
 
@@ -9,7 +9,6 @@ use crate::answer::{compare_checked, Answer, Checked};
 pub struct Case {
     pub left: Vec<u8>,
     pub right: Vec<u8>,
-    pub mode: u64,
     pub limit: u64,
     pub length: usize,
 }
@@ -17,7 +16,7 @@ pub struct Case {
 impl Case {
     pub fn run(&self) -> Checked {
         let lens = (self.length, self.length, self.length);
-        compare_checked(&self.left, &self.right, self.mode, self.limit, lens)
+        compare_checked(&self.left, &self.right, self.limit, lens)
     }
 
     /// This line's answer worked out anew.
@@ -29,8 +28,8 @@ impl Case {
     /// The vectors line with this answer.
     pub fn line(&self, name: &str, answer: Answer) -> String {
         let (left, right) = (escape(&self.left), escape(&self.right));
-        let Case { mode, limit, length, .. } = self;
-        format!("{name}\t{left}\t{right}\t{mode}\t{limit}\t{length}\t{answer}")
+        let Case { limit, length, .. } = self;
+        format!("{name}\t{left}\t{right}\t{limit}\t{length}\t{answer}")
     }
 }
 
@@ -54,13 +53,12 @@ pub struct Vector {
 /// The vector of a line; none if the line is malformed.
 pub fn parse(line: &str) -> Option<Vector> {
     let fields: Vec<&str> = line.split('\t').collect();
-    let &[name, left, right, mode, limit, length, expected] = fields.as_slice() else {
+    let &[name, left, right, limit, length, expected] = fields.as_slice() else {
         return None;
     };
     let case = Case {
         left: unescape(left)?,
         right: unescape(right)?,
-        mode: mode.parse().ok()?,
         limit: limit.parse().ok()?,
         length: length.parse().ok()?,
     };
@@ -95,6 +93,11 @@ pub fn unescape(text: &str) -> Option<Vec<u8>> {
         }
     }
     Some(bytes)
+}
+
+/// What a program prints, `/` for its line ends.
+pub fn escape_lines(printed: &str) -> String {
+    printed.replace('\n', "/")
 }
 
 pub fn escape(bytes: &[u8]) -> String {

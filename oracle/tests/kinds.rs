@@ -2,7 +2,7 @@
 
 use std::collections::BTreeSet;
 
-use oracle::answer::{Answer, Known, MAX_TABLE};
+use oracle::answer::{Answer, Known, MAX_TABLE, WORDS};
 use oracle::bisim::Outcome;
 use oracle::calls::{any_pair, calls, Call, Pair};
 use oracle::generate::{FORMER_BITS, WIDE};
@@ -113,12 +113,19 @@ fn many_rounds_and_large_lists_come_up() {
     assert!(rounds > 20 && nodes > 100_000, "{rounds} {nodes}");
 }
 
+fn verdict(outcome: Outcome) -> &'static str {
+    match outcome {
+        Outcome::Equal(_) => "equal",
+        Outcome::Different(_) => "different",
+        Outcome::Undecided => "9",
+    }
+}
+
 fn answer_sort(call: &Call, known: &Known) -> String {
     match call.expected(known) {
         None => format!("{} words", call.words),
         Some(Answer::Refused { number, side, .. }) => format!("{number} {side}"),
-        Some(Answer::Equal { .. }) => format!("equal in mode {}", call.mode),
-        Some(Answer::Different { .. }) => format!("different in mode {}", call.mode),
+        Some(Answer::Given { strong, weak, .. }) => format!("{} and {}", verdict(strong), verdict(weak)),
     }
 }
 
@@ -128,8 +135,18 @@ fn every_answer_comes_up() {
     for (pair, mut random) in pairs() {
         seen.extend(calls(&mut random, &pair).iter().map(|call| answer_sort(call, &pair.known)));
     }
-    // Two verdicts in two modes, 0 to 5 words, 1 to 6 on two sides, 7 to 9.
-    assert_eq!(seen.len(), 4 + 6 + 12 + 3, "{seen:?}");
+    // Strongly equal is weakly equal, and a strong 9 never stands beside "different"; 0 to 11 words; 1 to 6 on two sides; 7 and 8.
+    let verdicts = [
+        "equal and equal",
+        "equal and 9",
+        "different and equal",
+        "different and different",
+        "different and 9",
+        "9 and equal",
+        "9 and 9",
+    ];
+    assert!(verdicts.iter().all(|&sort| seen.contains(sort)), "{seen:?}");
+    assert_eq!(seen.len(), verdicts.len() + WORDS + 12 + 2, "{seen:?}");
 }
 
 #[test]
@@ -138,12 +155,12 @@ fn every_length_comes_up() {
     for (pair, mut random) in pairs() {
         for call in calls(&mut random, &pair) {
             let sort = |length: usize| if length < 2 { length } else { 2 + length % 2 };
-            work.extend(call.work.iter().enumerate().map(|(slice, &length)| (slice, sort(length))));
+            work.insert(sort(call.work));
             table.insert(call.table[0]);
             limits.insert(call.limit);
         }
     }
-    assert_eq!(work.len(), 3 * 4);
+    assert_eq!(work.len(), 4);
     assert!([0, 1, 2, MAX_TABLE, MAX_TABLE + 1].iter().all(|length| table.contains(length)));
     assert!([0, 1, 2, u64::MAX].iter().all(|limit| limits.contains(limit)));
     // The other limits are products of numbers of states.
@@ -184,9 +201,8 @@ fn width_sorts(pair: &Pair) -> Vec<(u32, u8, &'static str)> {
     let (sides, sort) = match &pair.known {
         Known::Refused(Answer::Refused { number: 6, side, .. }) => (vec![*side], "refused"),
         Known::Refused(_) => return vec![],
-        Known::Traced(trace) if trace.end.is_err() => (vec![0, 1], "full"),
-        Known::Traced(trace) if matches!(trace.end, Ok(Outcome::Equal(_))) => (vec![0, 1], "equal"),
-        Known::Traced(_) => (vec![0, 1], "different"),
+        Known::Traced(trace) if trace.full => (vec![0, 1], "full"),
+        Known::Traced(trace) => (vec![0, 1], verdict(trace.outcomes.strong)),
     };
     let used = |side: u8| widest(if side == 0 { &pair.left } else { &pair.right }).filter(|width| width.1);
     sides.into_iter().filter_map(|side| Some((used(side)?.0, side, sort))).collect()

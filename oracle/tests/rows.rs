@@ -1,13 +1,12 @@
 //! Rows P1 to P10 of document 01 and single points of its text.
 
+use oracle::answer::MAX_TABLE;
 use oracle::bisim::Mode;
 use oracle::model::Model;
 use oracle::reader::{read, Refusal};
 use oracle::steps::Step;
 use oracle::{compare, largest, steps, Answer};
 
-const STRONG: u64 = 0;
-const WEAK: u64 = 1;
 const LIMIT: u64 = 1_000_000;
 
 /// `/` ends a line, and so does the end of a row.
@@ -19,12 +18,12 @@ fn model(row: &str) -> Model {
     read(&text(row)).expect("the row is accepted")
 }
 
-fn answer_at(left: &str, right: &str, mode: u64, limit: u64, length: usize) -> String {
-    compare(&text(left), &text(right), mode, limit, (length, length, length)).to_string()
+fn answer_at((left, right): (&str, &str), limit: u64, length: usize) -> String {
+    compare(&text(left), &text(right), limit, (length, length, length)).to_string()
 }
 
-fn answer(left: &str, right: &str, mode: u64) -> String {
-    answer_at(left, right, mode, LIMIT, 4096)
+fn answer(row: (&str, &str)) -> String {
+    answer_at(row, LIMIT, 4096)
 }
 
 fn derived(row: &str) -> Vec<(u32, u8, u32)> {
@@ -32,6 +31,7 @@ fn derived(row: &str) -> Vec<(u32, u8, u32)> {
     steps(&model(row)).expect("small").into_iter().map(triple).collect()
 }
 
+const P1: (&str, &str) = ("000101", "000101");
 const P2: (&str, &str) = ("000102000201", "000103000001010202");
 const P4: (&str, &str) = ("000103000201010402010602", "000104000201000202010403020603");
 const P6: (&str, &str) = ("000104000201000202020403", "000103000201010402");
@@ -40,71 +40,81 @@ const P8: (&str, &str) = ("000102000201/01050001", "000102000001");
 const P9: (&str, &str) = ("000102000201/0106000001", "000102000201");
 const P10: (&str, &str) = ("000102000201/0104000102", "000102000401");
 
+const FULL: &str = "refused 8 2 0";
+
+/// The answer of a row, on the shortest table that its list fits; one entry less gives 8.
+fn fits(row: (&str, &str), limit: u64, nodes: usize) -> String {
+    assert_eq!(answer_at(row, limit, nodes + 1), FULL);
+    let answer = answer_at(row, limit, nodes + 2);
+    assert_eq!(answer, answer_at(row, limit, 1 << 20));
+    answer
+}
+
 #[test]
 fn p1_one_state() {
-    assert_eq!(answer("000101", "000101", STRONG), "equal 1 0");
-    assert_eq!(answer_at("000101", "000101", STRONG, LIMIT, 2), "equal 1 0");
-    assert_eq!(answer("000101", "000101", WEAK), "equal 1 12");
-    assert_eq!(answer_at("000101", "000101", WEAK, LIMIT, 14), "equal 1 12");
-    assert_eq!(answer_at("000101", "000101", WEAK, LIMIT, 13), "refused 8 2 0");
+    assert_eq!(answer(P1), "strong equal 1 | weak equal 1 | 12");
+    assert_eq!(answer_at(P1, LIMIT, 14), answer(P1));
+    assert_eq!(answer_at(P1, LIMIT, 13), FULL);
+    assert_eq!(answer_at(P1, LIMIT, 2), FULL);
 }
 
 #[test]
 fn p2_and_p3_inner_step_first() {
-    assert_eq!(answer(P2.0, P2.1, STRONG), "different 1 216");
-    assert_eq!(answer(P2.1, P2.0, STRONG), "different 1 231");
-    assert_eq!(answer(P2.0, P2.1, WEAK), "equal 3 866");
+    assert_eq!(fits(P2, LIMIT, 956), "strong different 1 | weak equal 3 | 956");
     let pairs = largest(&model(P2.0), &model(P2.1), Mode::Weak);
     assert_eq!(pairs, Some(vec![(0, 0), (0, 1), (1, 2)]));
 }
 
 #[test]
 fn p4_and_p5_choice_after_or_before() {
-    assert_eq!(answer(P4.0, P4.1, STRONG), "different 2 749");
-    assert_eq!(answer(P4.0, P4.1, WEAK), "different 2 1590");
-    assert_eq!(answer_at(P4.0, P4.1, STRONG, 1, 4096), "refused 9 2 0");
-    assert_eq!(answer_at(P4.0, P4.1, STRONG, 2, 4096), "different 2 749");
+    assert_eq!(fits(P4, LIMIT, 1633), "strong different 2 | weak different 2 | 1633");
+    assert_eq!(fits(P4, 2, 1633), "strong different 2 | weak different 2 | 1633");
+    assert!(answer_at(P4, 1, 4096).starts_with("strong refused 9 2 0 | weak refused 9 2 0 | "));
 }
 
 #[test]
 fn p6_challenges_of_both_sides() {
-    assert_eq!(answer(P6.0, P6.1, STRONG), "different 2 676");
-    assert_eq!(answer(P6.0, P6.1, WEAK), "different 2 1431");
+    assert_eq!(fits(P6, LIMIT, 1501), "strong different 2 | weak different 2 | 1501");
 }
 
 #[test]
 fn p7_to_p10_operators() {
-    assert_eq!(answer(P7.0, P7.1, STRONG), "equal 2 292");
-    assert_eq!(answer(P7.0, P7.1, WEAK), "equal 1 389");
-    assert_eq!(answer(P8.0, P8.1, STRONG), "equal 2 194");
-    assert_eq!(answer(P8.0, P8.1, WEAK), "equal 1 172");
-    assert_eq!(answer(P9.0, P9.1, STRONG), "equal 2 259");
-    assert_eq!(answer(P9.0, P9.1, WEAK), "equal 2 620");
-    assert_eq!(answer(P10.0, P10.1, STRONG), "equal 2 183");
-    assert_eq!(answer(P10.0, P10.1, WEAK), "equal 2 346");
+    assert_eq!(fits(P7, LIMIT, 574), "strong equal 2 | weak equal 1 | 574");
+    assert_eq!(fits(P8, LIMIT, 300), "strong equal 2 | weak equal 1 | 300");
+    assert_eq!(fits(P9, LIMIT, 642), "strong equal 2 | weak equal 2 | 642");
+    assert_eq!(fits(P10, LIMIT, 373), "strong equal 2 | weak equal 2 | 373");
 }
 
 #[test]
 fn limit_0_gives_no_verdict() {
-    assert_eq!(answer_at("000101", "000101", STRONG, 0, 4096), "refused 9 2 0");
-    assert_eq!(answer_at(P2.0, P2.1, STRONG, 0, 2), "refused 8 2 0");
+    // The weak answers are in the list all the same: 6 nodes of P1, and of P2 those of the request's line.
+    assert_eq!(fits(P1, 0, 6), "strong refused 9 2 0 | weak refused 9 2 0 | 6");
+    assert_eq!(fits(P2, 0, 385), "strong refused 9 2 0 | weak refused 9 2 0 | 385");
+}
+
+#[test]
+fn one_verdict_may_fall_alone() {
+    let by = |row, limit| answer_at(row, limit, 4096);
+    assert!(by(P2, 1).starts_with("strong different 1 | weak refused 9 2 0 | "));
+    assert!(by(P2, 2).starts_with("strong different 1 | weak refused 9 2 0 | "));
+    assert!(by(P7, 1).starts_with("strong refused 9 2 0 | weak equal 1 | "));
 }
 
 #[test]
 fn refusal_7_comes_first() {
     let seven = Answer::Refused { number: 7, side: 2, line: 0 };
-    assert_eq!(compare(b"", b"", 2, 0, (4, 4, 4)), seven);
-    assert_eq!(compare(b"", b"", 0, 0, (4, 5, 4)), seven);
-    assert_eq!(compare(b"", b"", 0, 0, (4, 4, 5)), seven);
-    assert_eq!(compare(b"", b"", 0, 0, (1, 1, 1)), seven);
-    assert_eq!(compare(b"", b"", 0, 0, (1 << 21, 1 << 21, 1 << 21)), seven);
+    for lens in
+        [(5, 4, 4), (4, 5, 4), (4, 4, 5), (0, 0, 0), (1, 1, 1), (MAX_TABLE + 1, MAX_TABLE + 1, MAX_TABLE + 1)]
+    {
+        assert_eq!(compare(b"", b"", 0, lens), seven, "{lens:?}");
+    }
 }
 
 #[test]
 fn left_text_comes_before_right_text() {
     let lens = (4, 4, 4);
-    assert_eq!(compare(b"", b"0", 0, 0, lens).to_string(), "refused 1 0 0");
-    assert_eq!(compare(b"000101\n", b"0", 0, 0, lens).to_string(), "refused 1 1 0");
+    assert_eq!(compare(b"", b"0", 0, lens).to_string(), "refused 1 0 0");
+    assert_eq!(compare(b"000101\n", b"0", 0, lens).to_string(), "refused 1 1 0");
 }
 
 #[test]
@@ -183,13 +193,12 @@ fn composition_does_not_distribute_over_choice() {
     // a | (b + c) against (a | b) + (a | c).
     let left = "000102000201/010103000401000602/02020001";
     let right = "000108000201000402000203000604010402030604020205040205";
-    assert!(answer_at(left, right, STRONG, LIMIT, 65536).starts_with("different"));
-    assert!(answer_at(left, right, WEAK, LIMIT, 65536).starts_with("different"));
+    assert!(answer_at((left, right), LIMIT, 65536).starts_with("strong different 2 | weak different 2 | "));
 }
 
 #[test]
 fn large_models_are_not_enumerated() {
     let row = "000140/01020000/02020100";
     assert_eq!(steps(&model(row)), None);
-    assert!(answer_at(row, row, STRONG, LIMIT, 1 << 20).starts_with("equal 1 "));
+    assert!(answer_at((row, row), LIMIT, MAX_TABLE).starts_with("strong equal 1 | weak equal 1 | "));
 }
