@@ -1,7 +1,7 @@
-/* The same pairs through the library and through BuDDy: CPU seconds and their ratio.
-   bench warm LEFT RIGHT MODE TABLE: nine turns in one process, the medians. One line, tab-separated: verdict rounds nodes
-       seconds(library) seconds(BuDDy, each cache) ratio(to the faster BuDDy) nodes/s.
-   bench SIDE LEFT RIGHT MODE TABLE, with SIDE library, small or large: one call in a new process, with what it allocates: its seconds. */
+/* The same pairs through the library and through BuDDy, both verdicts from one call: CPU seconds and their ratio.
+   bench warm LEFT RIGHT TABLE: nine turns in one process, the medians. One line, tab-separated: strong verdict and rounds, weak verdict and
+       rounds, nodes, seconds(library) seconds(BuDDy, each cache) ratio(to the faster BuDDy) nodes/s.
+   bench SIDE LEFT RIGHT TABLE, with SIDE library, small or large: one call in a new process, with what it allocates: its seconds. */
 #include "../include/seipolku.h"
 #include "buddy.h"
 #include <stdio.h>
@@ -19,9 +19,9 @@ static const char *const cache_name[CACHES] = {"small", "large"};
 static int cache_of(int k, size_t table) { return (int)(k ? 2 * table : table / 2); }
 
 typedef struct { unsigned char *text; size_t len; } Text;
-typedef struct { Text left, right; int mode; size_t table; } Pair;
+typedef struct { Text left, right; size_t table; } Pair;
 typedef struct { uint8_t *level; uint32_t *low, *high, *work; } Table;
-typedef struct { int equal; uint64_t rounds, nodes; } Result;
+typedef struct { Verdicts of; uint64_t nodes; } Result;
 
 static double now(void) {
     struct timespec t;
@@ -45,26 +45,38 @@ static Table new_table(size_t len) {
     return (Table){malloc(len), malloc(4 * len), malloc(4 * len), malloc(16 * len)};
 }
 
+static void must_be_answered(uint64_t kind, const uint64_t *answer) {
+    if (kind == 0 && answer[2] != 9 && answer[5] != 9) return;
+    printf("no two verdicts: %lu, %lu %lu %lu\n", (unsigned long)kind, (unsigned long)answer[0], (unsigned long)answer[2], (unsigned long)answer[5]);
+    exit(1);
+}
+
 static Result by_library(const Pair *p, Table t) {
-    uint64_t answer[6];
-    uint64_t kind = seipolku_compare(p->left.text, p->left.len, p->right.text, p->right.len, (uint64_t)p->mode, 1000000, t.level, p->table, t.low, p->table,
-                                     t.high, p->table, NULL, 0, NULL, 0, t.work, 4 * p->table, answer, 6);
-    if (kind > 1) {
-        printf("refused %lu\n", (unsigned long)answer[0]);
-        exit(1);
-    }
-    return (Result){kind == 0, answer[3], answer[4]};
+    uint64_t answer[12];
+    uint64_t kind = seipolku_compare(p->left.text, p->left.len, p->right.text, p->right.len, 1000000, t.level, p->table, t.low, p->table, t.high, p->table,
+                                     t.work, 4 * p->table, answer, 12);
+    must_be_answered(kind, answer);
+    return (Result){{{answer[2] == 0, answer[3]}, {answer[5] == 0, answer[6]}}, answer[8]};
 }
 
 static Result by_buddy(const Pair *p) {
-    Buddy b = buddy_compare(p->left.text, p->left.len, p->right.text, p->right.len, p->mode);
-    return (Result){b.equal, b.rounds, 0};
+    return (Result){buddy_compare(p->left.text, p->left.len, p->right.text, p->right.len), 0};
 }
 
+static void print_result(Result r) {
+    const char *const word[] = {"different", "equal"};
+    printf("%s\t%llu\t%s\t%llu\t%lu", word[r.of.strong.equal], r.of.strong.rounds, word[r.of.weak.equal], r.of.weak.rounds, (unsigned long)r.nodes);
+}
+
+static int same(Verdict a, Verdict b) { return a.equal == b.equal && a.rounds == b.rounds; }
+
 static void must_agree(Result a, Result b) {
-    if (a.equal == b.equal && a.rounds == b.rounds && a.nodes == b.nodes) return;
-    printf("DISAGREE: library %d %lu %lu, BuDDy %d %lu %lu\n", a.equal, (unsigned long)a.rounds, (unsigned long)a.nodes, b.equal, (unsigned long)b.rounds,
-           (unsigned long)b.nodes);
+    if (same(a.of.strong, b.of.strong) && same(a.of.weak, b.of.weak) && a.nodes == b.nodes) return;
+    printf("DISAGREE: library ");
+    print_result(a);
+    printf(", BuDDy ");
+    print_result(b);
+    printf("\n");
     exit(1);
 }
 
@@ -93,7 +105,7 @@ static int warm(const Pair *p) {
     double ours[TURNS], theirs[CACHES][TURNS], buddy[CACHES];
     Table t = new_table(p->table);
     memset(t.level, 0xA5, p->table), memset(t.low, 0xA5, 4 * p->table), memset(t.high, 0xA5, 4 * p->table), memset(t.work, 0xA5, 16 * p->table);
-    Result r = {0, 0, 0};
+    Result r = {.nodes = 0};
     for (int turn = 0; turn < TURNS; turn++) {
         double a = now();
         r = by_library(p, t);
@@ -102,8 +114,8 @@ static int warm(const Pair *p) {
     }
     double mine = median(ours);
     for (int k = 0; k < CACHES; k++) buddy[k] = median(theirs[k]);
-    printf("%s\t%lu\t%lu\t%.5f\t%.5f\t%.5f\t%.2f\t%.0f\n", r.equal ? "equal" : "different", (unsigned long)r.rounds, (unsigned long)r.nodes, mine, buddy[0],
-           buddy[1], mine / (buddy[0] < buddy[1] ? buddy[0] : buddy[1]), (double)r.nodes / mine);
+    print_result(r);
+    printf("\t%.5f\t%.5f\t%.5f\t%.2f\t%.0f\n", mine, buddy[0], buddy[1], mine / (buddy[0] < buddy[1] ? buddy[0] : buddy[1]), (double)r.nodes / mine);
     return 0;
 }
 
@@ -120,10 +132,10 @@ static int cold(const Pair *p, const char *side) {
 }
 
 int main(int argc, char **argv) {
-    if (argc != 6) {
-        fprintf(stderr, "usage: %s warm|library|%s|%s LEFT RIGHT MODE TABLE (entries of the table)\n", argv[0], cache_name[0], cache_name[1]);
+    if (argc != 5) {
+        fprintf(stderr, "usage: %s warm|library|%s|%s LEFT RIGHT TABLE (entries of the table)\n", argv[0], cache_name[0], cache_name[1]);
         return 2;
     }
-    Pair p = {read_file(argv[2]), read_file(argv[3]), atoi(argv[4]), strtoul(argv[5], NULL, 10)};
+    Pair p = {read_file(argv[2]), read_file(argv[3]), strtoul(argv[4], NULL, 10)};
     return strcmp(argv[1], "warm") == 0 ? warm(&p) : cold(&p, argv[1]);
 }

@@ -1,9 +1,10 @@
-/* The list of functions evaluated with BuDDy (Debian's libbdd-dev). */
+/* The joined list of functions evaluated with BuDDy (Debian's libbdd-dev). */
 #include <stddef.h>
 
-typedef struct { int equal; unsigned long long rounds; } Buddy;
+typedef struct { int equal; unsigned long long rounds; } Verdict;
+typedef struct { Verdict strong, weak; } Verdicts;
 
 void buddy_start(int nodes, int cache);
-Buddy buddy_compare(const unsigned char *left, size_t left_len, const unsigned char *right, size_t right_len, int mode);
+Verdicts buddy_compare(const unsigned char *left, size_t left_len, const unsigned char *right, size_t right_len);
 int buddy_nodes(void);
 void buddy_end(void);

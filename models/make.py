@@ -15,11 +15,13 @@ TAU = "tau"
 LIMIT = 1_000_000
 PROGRAM_TABLE = 4096
 LARGEST_TABLE = 1 << 20
+SMALL_LIST = 1 << 16    # lists of at most so many nodes get further lines in vectors.tsv
 NODES = 1 << 24    # the oracle's room for a list that fits no table
+FULL = "refused 8 2 0"
 MAX_BITS = 24
 
 names = []       # lines of NAMES.md
-pairs = []       # (left, right, mode, verdict, whether the oracle can enumerate the pairs of states)
+pairs = []       # (left, right, strong verdict, weak verdict, whether the oracle can enumerate the pairs of states)
 refusals = []    # (name, text, right, line): in this line the text gets more than MAX_BITS bits
 
 
@@ -139,7 +141,7 @@ def spelled(name):
 
 def pair(left, right, strong, weak, explicit=True):
     """Explicit if the pairs of states are few enough for the oracle to enumerate them."""
-    pairs.extend((left, right, mode, verdict, explicit) for mode, verdict in ((0, strong), (1, weak)))
+    pairs.append((left, right, strong, weak, explicit))
 
 
 def refused(name, model, right, line):
@@ -634,49 +636,60 @@ def oracle(*words, text=""):
     return done.stdout.strip() or done.stderr.strip()
 
 
-def answer(left, right, mode, explicit):
-    """Verdict and rounds by explicit pairs, or, where these are too many, by the list with room for NODES; and nodes,
+def parts(given):
+    """Strong verdict and rounds, weak verdict and rounds, nodes: of an answer `strong .. | weak .. | ..`."""
+    strong, weak, nodes = given.split(" | ")
+    return [*strong.split()[1:], *weak.split()[1:], nodes]
+
+
+def answer(left, right, explicit):
+    """Verdicts and rounds by explicit pairs, or, where these are too many, by the list with room for NODES; and nodes,
     `-` where the list fits no table."""
     files = path(left), path(right)
-    found = oracle("verdict", *files, mode, LIMIT)
-    assert explicit == (found != "too large to enumerate"), (left, right, mode, found)
-    if not explicit:
-        found = oracle("list", *files, mode, LIMIT, NODES)
-    found = found.split()[:2]
-    counted = oracle("compare", *files, mode, LIMIT, LARGEST_TABLE).split()
-    if counted == ["refused", "8", "2", "0"]:
+    by_pairs = [oracle("verdict", *files, mode, LIMIT) for mode in (0, 1)]
+    assert [explicit] * 2 == [found != "too large to enumerate" for found in by_pairs], (left, right, by_pairs)
+    found = " ".join(by_pairs).split() if explicit else parts(oracle("list", *files, LIMIT, NODES))[:4]
+    listed = oracle("compare", *files, LIMIT, LARGEST_TABLE)
+    if listed == FULL:
         return found + ["-"]
-    assert counted[:2] == found, (left, right, mode, found, counted)
-    return counted
+    assert parts(listed)[:4] == found, (left, right, found, listed)
+    return parts(listed)
 
 
-def vector(left, text, right, mode, length, result):
+def vector(left, text, right, length, result, limit=LIMIT):
     with open(path(right)) as file:
         texts = [t.replace("\n", "/") for t in (text, file.read())]
-    name = f"{left} {right} {'weak' if mode else 'strong'} {length}"
-    return "\t".join([name, *texts, str(mode), str(LIMIT), str(length), result])
+    name = f"{left} {right} {length}" + (f" limit {limit}" if limit != LIMIT else "")
+    return "\t".join([name, *texts, str(limit), str(length), result])
 
 
-def vectors(left, right, mode, found):
-    """The pair as vectors lines, with the program's table and with the largest one."""
+def vectors(left, right, found):
+    """The pair as vectors lines: with the program's table and with the largest one; if its list is small, also with the
+    table that it just fits and with one entry less, and by limits below the rounds, so that 9 stands in one verdict's place or in both."""
     with open(path(left)) as file:
         text = file.read()
-    for length in (PROGRAM_TABLE, LARGEST_TABLE):
-        fits = found[2] != "-" and int(found[2]) <= length - 2
-        result = " ".join(found) if fits else "refused 8 2 0"
-        yield vector(left, text, right, mode, length, result)
+    strong, rounds, weak, weak_rounds, nodes = found
+    given = f"strong {strong} {rounds} | weak {weak} {weak_rounds} | {nodes}"
+    needed = NODES if nodes == "-" else int(nodes) + 2
+    small = needed <= SMALL_LIST
+    for length in (PROGRAM_TABLE, LARGEST_TABLE) + ((needed - 1, needed) if small else ()):
+        yield vector(left, text, right, length, given if needed <= length else FULL)
+    first, last = sorted((int(rounds), int(weak_rounds)))
+    for limit in sorted({first - 1, last - 1}) if small else ():
+        by_limit = oracle("compare", path(left), path(right), limit, LARGEST_TABLE)
+        yield vector(left, text, right, LARGEST_TABLE, by_limit, limit)
 
 
 def expected():
-    rows = ["# left\tright\tmode\tverdict\trounds\tnodes"]
-    lines = ["# name\tleft\tright\tmode\tlimit\tL\tanswer"]
-    for left, right, mode, verdict, explicit in pairs:
-        found = answer(left, right, mode, explicit)
-        print(left, right, mode, *found, flush=True)
-        if found[0] != verdict:
-            sys.exit(f"expected {verdict}")
-        rows.append("\t".join([left + ".hex", right + ".hex", str(mode), *found]))
-        lines.extend(vectors(left, right, mode, found))
+    rows = ["# left\tright\tstrong\trounds\tweak\trounds\tnodes"]
+    lines = ["# name\tleft\tright\tlimit\tL\tanswer"]
+    for left, right, strong, weak, explicit in pairs:
+        found = answer(left, right, explicit)
+        print(left, right, *found, flush=True)
+        if found[0:3:2] != [strong, weak]:
+            sys.exit(f"expected {strong}, {weak}")
+        rows.append("\t".join([left + ".hex", right + ".hex", *found]))
+        lines.extend(vectors(left, right, found))
     write("EXPECTED.tsv", rows)
     write("vectors.tsv", lines + [refusal(*r) for r in refusals])
 
@@ -684,11 +697,11 @@ def expected():
 def refusal(left, text, right, line):
     """A refused text as a vectors line."""
     result = f"refused 6 0 {line}"
-    found = oracle("compare", "/dev/stdin", path(right), 0, LIMIT, LARGEST_TABLE, text=text)
+    found = oracle("compare", "/dev/stdin", path(right), LIMIT, LARGEST_TABLE, text=text)
     print(left, found)
     if found != result:
         sys.exit(f"expected {result}")
-    return vector(left, text, right, 0, LARGEST_TABLE, result)
+    return vector(left, text, right, LARGEST_TABLE, result)
 
 
 def write(name, lines):
