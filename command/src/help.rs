@@ -22,9 +22,9 @@ A text whose .model or .aut file has changed since it was built is refused, with
 a file that it reads. In messages, lines and columns of a file are counted from 1, as editors do; the lines of a model have numbers from
 0, as in --line K.
 
-Exit status: 0 done, or the models are equal; 1 they are different; 2 the library refuses a model or a comparison; 3 wrong words or
-files, name tables that disagree, a text that is older than its source, or a model that is too large to list: nothing was asked of the
-library, or its answer is not printed.
+Exit status: 0 done, or the models are equal; 1 they are different; 2 the library refuses a model, a comparison or a verdict; 3 wrong
+words or files, name tables that disagree, a text that is older than its source, or a model that is too large to list: nothing was asked
+of the library, or its answer is not printed.
 ";
 
 const COMPARE: &str = "\
