@@ -104,21 +104,24 @@ pub fn any_pair(random: &mut Random) -> Pair {
     Pair::new(left, right)
 }
 
-/// A pair of small accepted models, whose look-ups are all made.
-pub fn small_pair(random: &mut Random, budget: u32) -> Pair {
+/// A pair of small accepted models and a call after which all look-ups are made; by some a mode has no verdict.
+pub fn shown(random: &mut Random) -> (Pair, Call) {
+    let budget = random.pick(&[2, 2, 3, 3, 3, 4]);
     let (left, right) = pair(random, budget);
-    Pair::new(text(&left), text(&right))
+    let pair = Pair::new(text(&left), text(&right));
+    let call = if random.once_in(2) { early(random, &pair) } else { fitting(random, &pair) };
+    (pair, call)
 }
 
 /// The call without a limit on a table that the list just fits.
-pub fn fitting(random: &mut Random, pair: &Pair) -> Call {
+fn fitting(random: &mut Random, pair: &Pair) -> Call {
     let length = pair.needed() + 2;
     let words = random.pick(&[WORDS, WORDS, WORDS, WORDS + 1, WORDS + 3, 2 * WORDS]);
     Call { limit: u64::MAX, table: [length; 3], work: work(random, length), words }
 }
 
 /// A call by which a mode likely has no verdict, on a table that the list just fits.
-pub fn early(random: &mut Random, pair: &Pair) -> Call {
+fn early(random: &mut Random, pair: &Pair) -> Call {
     let limit = pair.early_limit(random);
     Call { limit, table: [pair.needed_by(limit) + 2; 3], ..fitting(random, pair) }
 }

@@ -41,7 +41,7 @@ fn readable(file: &Option<Vec<u8>>) -> Option<&Vec<u8>> {
 }
 
 /// A line for each mode, with the joined count beside a verdict; a refusal of the call stands on both.
-fn printed(answer: Answer) -> String {
+pub fn printed(answer: Answer) -> String {
     let [strong, weak] = answer.lines();
     format!("strong {strong}\nweak {weak}\n")
 }

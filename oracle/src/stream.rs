@@ -5,17 +5,18 @@ use std::io::{self, Write};
 
 use crate::answer::{compare_models, largest, told, Answer, MAX_TABLE, WORDS};
 use crate::bisim::{Mode, Outcome};
-use crate::calls::{any_pair, calls, early, fitting, small_pair, work, Call, Pair};
+use crate::calls::{self, any_pair, calls, work, Call, Pair};
 use crate::codes::holds;
 use crate::lookup::{look_up, Ask};
 use crate::model::Model;
+use crate::program::{printed, Files};
 use crate::random::Random;
 use crate::reader::read;
 use crate::requests;
 use crate::steps::{derive, Step};
 use crate::tables::{any_ask, any_table, Table};
 use crate::texts::any_text;
-use crate::vectors::{self, is_vector, Case};
+use crate::vectors::{self, escape_lines, is_vector, Case};
 
 const TEXT: u64 = 1;
 const PAIR: u64 = 2;
@@ -74,11 +75,8 @@ impl<W: Write> Stream<W> {
     /// Comparisons of small pairs, after which every step is looked up, and every pair of codes in each mode that is equal.
     pub fn shown(&mut self, cases: Cases) -> io::Result<()> {
         for (case, mut random) in cases.each() {
-            let budget = random.pick(&[2, 2, 3, 3, 3, 4]);
-            let pair = small_pair(&mut random, budget);
+            let (pair, call) = calls::shown(&mut random);
             self.pair(case, &pair.left, &pair.right)?;
-            let call =
-                if random.once_in(3) { early(&mut random, &pair) } else { fitting(&mut random, &pair) };
             let answer = call.expected(&pair.known);
             self.call(&mut random, &call, answer)?;
             if let Some(shown) = answer.and_then(|answer| Shown::new(&pair, answer)) {
@@ -117,12 +115,7 @@ impl<W: Write> Stream<W> {
             let request = requests::parse(line).ok_or_else(|| malformed(number))?;
             match &request.call {
                 requests::Call::Compare(case) => self.case(number, seed, case, &request.expected)?,
-                // The program's comparison; what it prints of it is the program's own test.
-                requests::Call::Program(files) => {
-                    if let Some(case) = files.case() {
-                        self.case(number, seed, &case, &case.run().answer.to_string())?;
-                    }
-                }
+                requests::Call::Program(files) => self.program(number, seed, files, &request.expected)?,
                 requests::Call::LookUp(table, ask) => {
                     let value = requests::looked_up(&request.expected).ok_or_else(|| malformed(number))?;
                     self.table(number, table)?;
@@ -131,6 +124,18 @@ impl<W: Write> Stream<W> {
             }
         }
         self.end()
+    }
+
+    /// The comparison that a run of the program makes, unless a file can't be read.
+    fn program(&mut self, number: u64, seed: u64, files: &Files, expected: &str) -> io::Result<()> {
+        let Some(case) = files.case() else { return Ok(()) };
+        let answer = case.run().answer;
+        if escape_lines(&printed(answer)) != expected {
+            return Err(io::Error::other(format!(
+                "line {number} is not what the program prints of {answer}"
+            )));
+        }
+        self.case(number, seed, &case, &answer.to_string())
     }
 
     /// A stored comparison.

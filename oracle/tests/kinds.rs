@@ -4,7 +4,7 @@ use std::collections::BTreeSet;
 
 use oracle::answer::{Answer, Known, MAX_TABLE, WORDS};
 use oracle::bisim::Outcome;
-use oracle::calls::{any_pair, calls, Call, Pair};
+use oracle::calls::{any_pair, calls, shown, Call, Pair};
 use oracle::generate::{FORMER_BITS, WIDE};
 use oracle::lookup::{codes, last_level, look_up, Ask};
 use oracle::model::{Channels, Line, Model, Process, MAX_BITS, TAU};
@@ -129,24 +129,36 @@ fn answer_sort(call: &Call, known: &Known) -> String {
     }
 }
 
+/// Strongly equal is weakly equal, and a strong 9 never stands beside a weak "different".
+const VERDICTS: [&str; 7] = [
+    "equal and equal",
+    "equal and 9",
+    "different and equal",
+    "different and different",
+    "different and 9",
+    "9 and equal",
+    "9 and 9",
+];
+
 #[test]
 fn every_answer_comes_up() {
     let mut seen = BTreeSet::new();
     for (pair, mut random) in pairs() {
         seen.extend(calls(&mut random, &pair).iter().map(|call| answer_sort(call, &pair.known)));
     }
-    // Strongly equal is weakly equal, and a strong 9 never stands beside "different"; 0 to 11 words; 1 to 6 on two sides; 7 and 8.
-    let verdicts = [
-        "equal and equal",
-        "equal and 9",
-        "different and equal",
-        "different and different",
-        "different and 9",
-        "9 and equal",
-        "9 and 9",
-    ];
-    assert!(verdicts.iter().all(|&sort| seen.contains(sort)), "{seen:?}");
-    assert_eq!(seen.len(), verdicts.len() + WORDS + 12 + 2, "{seen:?}");
+    assert!(VERDICTS.iter().all(|&sort| seen.contains(sort)), "{seen:?}");
+    // Beside these 0 to 11 words, 1 to 6 on two sides, 7 and 8.
+    assert_eq!(seen.len(), VERDICTS.len() + WORDS + 12 + 2, "{seen:?}");
+}
+
+#[test]
+fn look_ups_beside_each_9_come_up() {
+    let mut seen = BTreeSet::new();
+    for case in 0..3000 {
+        let (pair, call) = shown(&mut Random::of_case(SEED, case));
+        seen.insert(answer_sort(&call, &pair.known));
+    }
+    assert!(VERDICTS.iter().all(|&sort| seen.contains(sort)), "{seen:?}");
 }
 
 #[test]

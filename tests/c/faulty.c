@@ -6,9 +6,8 @@
 #include <string.h>
 
 #define TABLE_ARGUMENTS uint8_t *level, size_t level_len, uint32_t *low, size_t low_len, uint32_t *high, size_t high_len
-#define COMPARE_ARGUMENTS                                                                                                                              \
-    uint8_t *left, size_t left_len, uint8_t *right, size_t right_len, uint64_t mode, uint64_t limit, TABLE_ARGUMENTS, uint32_t *head, size_t head_len, \
-        uint32_t *next, size_t next_len, uint32_t *memo, size_t memo_len, uint64_t *answer, size_t words
+#define TEXT_ARGUMENTS uint8_t *left, size_t left_len, uint8_t *right, size_t right_len
+#define COMPARE_ARGUMENTS TEXT_ARGUMENTS, uint64_t limit, TABLE_ARGUMENTS, uint32_t *work, size_t work_len, uint64_t *answer, size_t words
 #define LOOK_UP_ARGUMENTS TABLE_ARGUMENTS, uint64_t root, uint64_t action, uint64_t left_now, uint64_t left_next, uint64_t right_now, uint64_t right_next
 
 #define MODEL_ARGUMENTS uint8_t *text, size_t text_len, uint64_t *answer, size_t words
@@ -20,7 +19,7 @@ uint64_t __wrap_seipolku_compare(COMPARE_ARGUMENTS);
 uint64_t __wrap_seipolku_look_up(LOOK_UP_ARGUMENTS);
 uint64_t __wrap_seipolku_model(MODEL_ARGUMENTS);
 
-enum { EQUAL, DIFFERENT, REFUSED, SHORT, ACCEPTED = EQUAL };
+enum { ACCEPTED = ANSWERED };
 enum { LEAF = 1, COMPOSE = 2, JOINT = 6 }; /* kinds of frames */
 
 static int fault(const char *name) {
@@ -62,59 +61,147 @@ static uint64_t first_wide(const uint8_t *text, uint64_t lines) {
 
 /* Faults in the limit of bits that a comparison keeps to. */
 static uint64_t limit_fault(uint64_t kind, const uint8_t *left, size_t left_len, const uint8_t *right, const uint64_t *answer) {
-    uint64_t told[6];
-    if (fault("a bit too many taken") && kind == REFUSED && answer[0] == 6 && bits_of(answer[1] ? right : left, answer[2]) == MAX_BITS + 1) return EQUAL;
-    if (fault("former limit of bits") && kind <= DIFFERENT && __real_seipolku_model((uint8_t *)left, left_len, told, 6) == ACCEPTED)
+    uint64_t told[MODEL_WORDS];
+    if (fault("a bit too many taken") && kind == REFUSED && answer[0] == 6 && bits_of(answer[1] ? right : left, answer[2]) == MAX_BITS + 1) return ANSWERED;
+    if (fault("former limit of bits") && kind == ANSWERED && __real_seipolku_model((uint8_t *)left, left_len, told, MODEL_WORDS) == ACCEPTED)
         return first_wide(left, told[1]) < told[1] ? REFUSED : kind;
     return kind;
 }
 
-/* Faults in what a call leaves of its answer. */
-static uint64_t answer_fault(uint64_t kind, uint64_t *answer, size_t words, size_t memo_len) {
-    if (kind == SHORT) {
-        if (fault("short answer written") && words > 0) answer[0] = 7;
-        return fault("short answer refused") ? REFUSED : kind;
+/* The same comparison by another limit, on a table of the greatest length. */
+static uint64_t compare_apart(TEXT_ARGUMENTS, uint64_t limit, uint64_t *answer) {
+    static uint8_t level[LONGEST];
+    static uint32_t low[LONGEST], high[LONGEST], work[4 * LONGEST];
+    return __real_seipolku_compare(left, left_len, right, right_len, limit, level, LONGEST, low, LONGEST, high, LONGEST, work, 4 * LONGEST, answer, WORDS);
+}
+
+/* The nodes that are got from a root and were not got before. */
+static uint64_t nodes_from(const uint32_t *low, const uint32_t *high, uint64_t root, uint8_t *got) {
+    if (root < 2 || got[root]) return 0;
+    got[root] = 1;
+    return 1 + nodes_from(low, high, low[root], got) + nodes_from(low, high, high[root], got);
+}
+
+static int fell(const uint64_t *verdict) { return verdict[0] != UNDECIDED; }
+
+/* Faults that give one mode's part of an answer for the other's, or for both. */
+static void mode_fault(uint64_t *answer) {
+    uint64_t *strong = answer + STRONG, *weak = answer + WEAK;
+    if (fault("strong verdict given for weak")) memcpy(weak, strong, 3 * sizeof *weak);
+    if (fault("weak verdict given for strong")) memcpy(strong, weak, 3 * sizeof *weak);
+    if (strong[0] == EQUAL && weak[0] == EQUAL) {
+        if (fault("strong iterate given for weak")) weak[ROOT] = strong[ROOT];
+        if (fault("weak iterate given for strong")) strong[ROOT] = weak[ROOT];
     }
-    if (fault("seventh word") && words > 6) answer[6] = 0;
-    if (kind == REFUSED) {
-        if (fault("refusal's number") && answer[0] == 6) answer[0] = 5;
-        if (fault("refusal's side") && answer[1] < 2) answer[1] ^= 1;
-        if (fault("refusal's line") && answer[2] > 0) answer[2]--;
-        return kind;
+    if (fault("weak rounds go on from the strong ones") && fell(weak)) weak[ROUNDS] += strong[ROUNDS];
+    if (fault("9 for both where one fell") && fell(strong) != fell(weak)) {
+        uint64_t *given = fell(strong) ? strong : weak;
+        given[0] = UNDECIDED, given[ROUNDS] = given[ROOT] = 0;
     }
-    if (fault("verdict")) return kind == EQUAL && answer[4] > 100 ? DIFFERENT : kind;
-    if (fault("rounds") && answer[3] > 3) answer[3]--;
-    if (fault("nodes") && answer[4] > 500) answer[4]--;
-    if (fault("memo seen") && memo_len == 1) answer[3]++;
+    if (fault("rounds of the limit beside 9") && !fell(weak)) weak[ROUNDS]++;
+    if (fault("left root lost beside 9") && !fell(weak)) answer[LEFT_ROOT] = 0;
+    if (fault("right root lost beside 9") && !fell(strong)) answer[RIGHT_ROOT] = 0;
+    if (fault("iterate shown beside 9") && !fell(weak)) weak[ROOT] = 1;
+    if (fault("iterate shown with different") && strong[0] == DIFFERENT) strong[ROOT] = 1;
+    if (fault("strong iterate of all pairs") && strong[0] == EQUAL) strong[ROOT] = 1;
+    if (fault("weak iterate of all pairs") && weak[0] == EQUAL) weak[ROOT] = 1;
+}
+
+/* Faults in the count of an answer, and in what goes past the limit. */
+static void list_fault(TEXT_ARGUMENTS, const uint32_t *low, const uint32_t *high, size_t length, uint64_t *answer) {
+    uint64_t *strong = answer + STRONG, *weak = answer + WEAK, apart[WORDS];
+    if (fault("nodes") && answer[NODES] > 500) answer[NODES]--;
+    if (fault("nodes of what strong shows alone")) {
+        uint8_t *got = calloc(length, 1);
+        answer[NODES] = nodes_from(low, high, answer[LEFT_ROOT], got) + nodes_from(low, high, answer[RIGHT_ROOT], got);
+        answer[NODES] += nodes_from(low, high, strong[ROOT], got);
+        free(got);
+    }
+    if (fault("nodes without the iterates") && compare_apart(left, left_len, right, right_len, 0, apart) == ANSWERED) answer[NODES] = apart[NODES];
+    if (fault("nodes by the strong verdict") && strong[ROUNDS] < weak[ROUNDS] &&
+        compare_apart(left, left_len, right, right_len, strong[ROUNDS], apart) == ANSWERED)
+        answer[NODES] = apart[NODES];
+    if (fault("nodes by the weak verdict") && weak[ROUNDS] < strong[ROUNDS] &&
+        compare_apart(left, left_len, right, right_len, weak[ROUNDS], apart) == ANSWERED)
+        answer[NODES] = apart[NODES];
+    if (fault("weak rounds go past the limit") && !fell(weak) && compare_apart(left, left_len, right, right_len, UINT64_MAX, apart) == ANSWERED)
+        weak[0] = apart[WEAK], weak[ROUNDS] = apart[WEAK + ROUNDS];
+}
+
+/* Faults in the words of a refusal. */
+static void refusal_fault(uint64_t *answer) {
+    if (fault("refusal's number") && answer[0] == 6) answer[0] = 5;
+    if (fault("refusal's side") && answer[1] < 2) answer[1] ^= 1;
+    if (fault("refusal's line") && answer[2] > 0) answer[2]--;
+    if (fault("refusal's fourth word not 0")) answer[3] = 1;
+    if (fault("refusal's twelfth word not 0")) answer[11] = 1;
+}
+
+/* Faults in single words of an answer with verdicts. */
+static void word_fault(uint64_t *answer, size_t work_len) {
+    uint64_t *strong = answer + STRONG, *weak = answer + WEAK;
+    if (fault("strong verdict") && strong[0] == EQUAL && answer[NODES] > 100) strong[0] = DIFFERENT, strong[ROOT] = 0;
+    if (fault("weak verdict") && weak[0] == EQUAL && answer[NODES] > 100) weak[0] = DIFFERENT, weak[ROOT] = 0;
+    if (fault("strong rounds") && strong[ROUNDS] > 3) strong[ROUNDS]--;
+    if (fault("weak rounds") && weak[ROUNDS] > 3) weak[ROUNDS]--;
+    if (fault("work seen") && work_len == 1) strong[ROUNDS]++;
+    if (fault("tenth word not 0")) answer[9] = 1;
+    if (fault("eleventh word not 0")) answer[10] = 1;
+    if (fault("twelfth word not 0")) answer[11] = 1;
     if (fault("roots swapped")) {
-        uint64_t left = answer[0];
-        answer[0] = answer[1], answer[1] = left;
+        uint64_t left = answer[LEFT_ROOT];
+        answer[LEFT_ROOT] = answer[RIGHT_ROOT], answer[RIGHT_ROOT] = left;
     }
-    if (fault("iterate of all pairs") && kind == EQUAL) answer[2] = 1;
-    return kind;
+}
+
+/* Faults in what a call returns: 9 refuses it, and 8 is judged by a list that is not the joined one. */
+static uint64_t kind_fault(uint64_t kind, TEXT_ARGUMENTS, uint64_t limit, size_t length, uint64_t *answer) {
+    uint64_t apart[WORDS];
+    int undecided = kind == ANSWERED && (!fell(answer + STRONG) || !fell(answer + WEAK));
+    if (fault("9 refuses the call") && undecided) return memcpy(answer, (uint64_t[WORDS]){9, 2}, WORDS * 8), REFUSED;
+    if (kind != REFUSED || answer[0] != 8) return kind;
+    if (fault("9 before 8") && limit < 2) return memset(answer, 0, WORDS * 8), answer[STRONG] = answer[WEAK] = UNDECIDED, ANSWERED;
+    if (fault("8 judged before the weak iterates") && compare_apart(left, left_len, right, right_len, 0, apart) == ANSWERED && apart[NODES] + 2 <= length)
+        return ANSWERED;
+    if (!fault("8 judged by the strong list alone") || compare_apart(left, left_len, right, right_len, limit, apart) != ANSWERED) return kind;
+    /* Of the weak list only the rounds after the strong verdict are left out: this shows even less often. */
+    if (compare_apart(left, left_len, right, right_len, apart[STRONG + ROUNDS], answer) == ANSWERED && answer[NODES] + 2 <= length) return ANSWERED;
+    return memcpy(answer, (uint64_t[WORDS]){8, 2}, WORDS * 8), kind;
 }
 
 /* Faults in the memory that a call was lent. */
 static void memory_fault(uint64_t kind, COMPARE_ARGUMENTS) {
     int refused = kind == REFUSED && answer[0] <= 7;
     volatile uint8_t *bytes = left;
-    (void)right, (void)right_len, (void)mode, (void)limit, (void)low_len, (void)head, (void)next, (void)words;
+    (void)right, (void)right_len, (void)limit, (void)low_len;
     if (fault("table touched") && refused && high_len) high[high_len - 1]++;
     if (fault("level touched") && refused && level_len) level[0]++;
     if (fault("text written") && left_len) bytes[0] = bytes[0];
     if (fault("text read past its end")) (void)bytes[left_len];
-    if (fault("memo read past its end")) (void)((volatile uint32_t *)memo)[memo_len];
-    if (fault("head written past its end")) ((volatile uint32_t *)head)[head_len] = 0;
-    if (fault("next written past its end")) ((volatile uint32_t *)next)[next_len] = 0;
-    if (fault("work touched when short") && kind == SHORT && memo_len) memo[0]++;
-    if (kind > DIFFERENT) return;
-    if (fault("not reduced") && answer[0] > 1) low[answer[0]] = high[answer[0]];
-    if (fault("not ordered") && answer[0] > 1) level[answer[0]] = LAST_LEVEL;
-    if (fault("no constants")) level[1] = 254;
+    if (fault("work read past its end")) (void)((volatile uint32_t *)work)[work_len];
+    if (fault("work written past its end")) ((volatile uint32_t *)work)[work_len] = 0;
+    if (fault("answer written past its end")) ((volatile uint64_t *)answer)[words] = 0;
+    if (fault("work touched when short") && kind == SHORT && work_len) work[0]++;
+    if (kind != ANSWERED) return;
+    int undecided = !fell(answer + STRONG) || !fell(answer + WEAK), shown = answer[LEFT_ROOT] > 1;
+    if ((fault("not reduced") || (fault("not reduced beside 9") && undecided)) && shown) low[answer[LEFT_ROOT]] = high[answer[LEFT_ROOT]];
+    if ((fault("not ordered") || (fault("not ordered beside 9") && undecided)) && shown) level[answer[LEFT_ROOT]] = LAST_LEVEL;
+    if (fault("weak iterate not reduced") && answer[WEAK + ROOT] > 1) low[answer[WEAK + ROOT]] = high[answer[WEAK + ROOT]];
+    if (fault("no constants") || (fault("no constants beside 9") && undecided)) level[1] = 254;
+}
+
+/* Faults in the number of words that an answer has to have. */
+static uint64_t words_needed_fault(COMPARE_ARGUMENTS) {
+    uint64_t taken[WORDS];
+    int less = (fault("eleven words taken") && words == WORDS - 1) || (fault("six words taken") && words >= MODEL_WORDS && words < WORDS);
+    if (fault("twelve words refused") && words == WORDS) words--;
+    uint64_t kind = __real_seipolku_compare(left, left_len, right, right_len, limit, level, level_len, low, low_len, high, high_len, work, work_len,
+                                            less ? taken : answer, less ? WORDS : words);
+    if (less) memcpy(answer, taken, words * 8);
+    return kind;
 }
 
 uint64_t __wrap_seipolku_compare(COMPARE_ARGUMENTS) {
-    if (fault("mode cut to a byte")) mode &= 255;
     if (fault("limit 0 taken as 1") && limit == 0) limit = 1;
     if (fault("limit passed by")) limit = UINT64_MAX;
     if (fault("long text cut") && left_len > LONGEST_TEXT) left_len = LONGEST_TEXT;
@@ -122,11 +209,20 @@ uint64_t __wrap_seipolku_compare(COMPARE_ARGUMENTS) {
     if (fault("lengths not compared")) low_len = high_len = level_len;
     if (fault("an entry too few") && level_len > 2) level_len--, low_len--, high_len--;
     if (fault("an entry too many") && level_len > 1) level_len++, low_len++, high_len++;
-    uint64_t kind = __real_seipolku_compare(left, left_len, right, right_len, mode, limit, level, level_len, low, low_len, high, high_len, head, head_len, next,
-                                            next_len, memo, memo_len, answer, words);
-    memory_fault(kind, left, left_len, right, right_len, mode, limit, level, level_len, low, low_len, high, high_len, head, head_len, next, next_len,
-                 memo, memo_len, answer, words);
-    return answer_fault(limit_fault(kind, left, left_len, right, answer), answer, words, memo_len);
+    uint64_t kind = words_needed_fault(left, left_len, right, right_len, limit, level, level_len, low, low_len, high, high_len, work, work_len, answer, words);
+    memory_fault(kind, left, left_len, right, right_len, limit, level, level_len, low, low_len, high, high_len, work, work_len, answer, words);
+    if (kind == SHORT || words < WORDS) {
+        if (fault("short answer written") && words > 0) answer[0] = 7;
+        return kind == SHORT && fault("short answer refused") ? REFUSED : kind;
+    }
+    if (fault("thirteenth word") && words > WORDS) answer[WORDS] = 0;
+    if (kind == REFUSED) refusal_fault(answer);
+    if (kind == ANSWERED) {
+        mode_fault(answer), word_fault(answer, work_len);
+        list_fault(left, left_len, right, right_len, low, high, level_len, answer);
+    }
+    kind = kind_fault(kind, left, left_len, right, right_len, limit, level_len, answer);
+    return limit_fault(kind, left, left_len, right, answer);
 }
 
 /* Faults in the four codes. */
@@ -199,8 +295,8 @@ uint64_t __wrap_seipolku_model(MODEL_ARGUMENTS) {
     if (fault("model, text written") && text_len) bytes[0] = bytes[0];
     if (fault("model, text read past its end") && text_len) (void)bytes[text_len];
     if (fault("model, answer written past its end") && words) ((volatile uint64_t *)answer)[words] = 0;
-    if (fault("model, five words taken") && words == 5) words = 6;
-    if (fault("model, six words refused") && words == 6) words = 5;
+    if (fault("model, five words taken") && words == MODEL_WORDS - 1) words++;
+    if (fault("model, six words refused") && words == MODEL_WORDS) words--;
     uint64_t kind = __real_seipolku_model(text, text_len, answer, words);
     if (kind == SHORT) {
         if (fault("model, short answer written") && words) answer[0] = 0;
@@ -208,6 +304,6 @@ uint64_t __wrap_seipolku_model(MODEL_ARGUMENTS) {
     }
     uint64_t returned = bits_fault(kind, text, answer);
     words_fault(kind, answer);
-    if (fault("model, seventh word") && words > 6) answer[6] = 0;
+    if (fault("model, seventh word") && words > MODEL_WORDS) answer[MODEL_WORDS] = 0;
     return fault("model, refused as accepted") ? ACCEPTED : returned;
 }

@@ -1,4 +1,4 @@
-/* The limits of document 01 as document 02's point 1 left them. */
+/* The limits of document 01 as document 02's point 1 left them, and the numbers of an answer as point 2 did. */
 #ifndef LIMITS_H
 #define LIMITS_H
 
@@ -10,5 +10,12 @@ enum { FORMER_BITS = 20, FORMER_CODES = 1 << FORMER_BITS, FORMER_LAST_LEVEL = 5 
 
 /* Entries of the longest table; lines and bytes of the longest text. */
 enum { LONGEST = 1 << 20, MAX_LINES = 64, LONGEST_TEXT = 32704 };
+
+/* What a call returns, and a verdict's values. */
+enum { ANSWERED = 0, REFUSED = 2, SHORT = 3 };
+enum { EQUAL = 0, DIFFERENT = 1, UNDECIDED = 9 };
+
+/* Words of a comparison's answer: two roots, for each mode a verdict, its rounds and its iterate's root, then the nodes; and of what is told of a model. */
+enum { LEFT_ROOT = 0, RIGHT_ROOT = 1, STRONG = 2, WEAK = 5, ROUNDS = 1, ROOT = 2, NODES = 8, WORDS = 12, MODEL_WORDS = 6 };
 
 #endif

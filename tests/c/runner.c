@@ -10,19 +10,39 @@
 #include <string.h>
 #include <unistd.h>
 
-enum { LENT = 7, MOST_REPORTS = 20, ACTIONS = 64 };
+enum { LENT = 5, MOST_REPORTS = 20, ACTIONS = 64, EXPECTED = 5 };
 
-/* The header names the limits of these tests. */
-_Static_assert((int)SEIPOLKU_MAX_BITS == MAX_BITS, "bits");
-_Static_assert((int)SEIPOLKU_LAST_LEVEL == LAST_LEVEL, "levels");
-_Static_assert((int)SEIPOLKU_MAX_TABLE == LONGEST, "entries");
+/* The header names the limits of these tests, and the numbers and words of answers. */
+#define SAME(name, value) _Static_assert((int)(name) == (int)(value), #name)
+SAME(SEIPOLKU_MAX_BITS, MAX_BITS);
+SAME(SEIPOLKU_LAST_LEVEL, LAST_LEVEL);
+SAME(SEIPOLKU_MAX_TABLE, LONGEST);
+SAME(SEIPOLKU_ANSWERED, ANSWERED);
+SAME(SEIPOLKU_ACCEPTED, ANSWERED);
+SAME(SEIPOLKU_REFUSED, REFUSED);
+SAME(SEIPOLKU_SHORT, SHORT);
+SAME(SEIPOLKU_EQUAL, EQUAL);
+SAME(SEIPOLKU_DIFFERENT, DIFFERENT);
+SAME(SEIPOLKU_UNDECIDED, UNDECIDED);
+SAME(SEIPOLKU_ANSWER_WORDS, WORDS);
+SAME(SEIPOLKU_MODEL_WORDS, MODEL_WORDS);
+SAME(SEIPOLKU_LEFT_ROOT, LEFT_ROOT);
+SAME(SEIPOLKU_RIGHT_ROOT, RIGHT_ROOT);
+SAME(SEIPOLKU_STRONG_VERDICT, STRONG);
+SAME(SEIPOLKU_STRONG_ROUNDS, STRONG + ROUNDS);
+SAME(SEIPOLKU_STRONG_ROOT, STRONG + ROOT);
+SAME(SEIPOLKU_WEAK_VERDICT, WEAK);
+SAME(SEIPOLKU_WEAK_ROUNDS, WEAK + ROUNDS);
+SAME(SEIPOLKU_WEAK_ROOT, WEAK + ROOT);
+SAME(SEIPOLKU_NODES, NODES);
 
-/* A comparison but for its texts. Expected are the returned kind, and rounds and nodes or a refusal's number, side and line. */
-typedef struct { uint64_t mode, limit, table[3], work[3], words, seed, kind, expected[3]; } Call;
+/* A comparison but for its texts. Expected are the returned kind, and each mode's verdict with its rounds, strong before weak, and the nodes; or a refusal's
+   number, side and line. */
+typedef struct { uint64_t limit, table[3], work, words, seed, kind, expected[EXPECTED]; } Call;
 
-static Slice left, right, level, low, high, head, next, memo, answer;
-static Slice *const lent[LENT] = {&level, &low, &high, &head, &next, &memo, &answer};
-static const size_t width[LENT] = {1, 4, 4, 4, 4, 4, 8};
+static Slice left, right, level, low, high, work, answer;
+static Slice *const lent[LENT] = {&level, &low, &high, &work, &answer};
+static const size_t width[LENT] = {1, 4, 4, 4, 8};
 static uint64_t agree, differ, current;
 static const char *label;
 
@@ -38,7 +58,7 @@ static void unlock_table(void) {
 }
 
 static uint64_t compare(const Call *c) {
-    const uint64_t lengths[LENT] = {c->table[0], c->table[1], c->table[2], c->work[0], c->work[1], c->work[2], c->words};
+    const uint64_t lengths[LENT] = {c->table[0], c->table[1], c->table[2], c->work, c->words};
     void *p[LENT];
     unlock_table();
     for (int k = 0; k < LENT; k++) {
@@ -46,8 +66,8 @@ static uint64_t compare(const Call *c) {
         p[k] = pointer(lent[k], c->seed);
     }
     lock(&left), lock(&right);
-    uint64_t returned = seipolku_compare(pointer(&left, c->seed), left.size, pointer(&right, c->seed), right.size, c->mode, c->limit, p[0], lengths[0],
-                                         p[1], lengths[1], p[2], lengths[2], p[3], lengths[3], p[4], lengths[4], p[5], lengths[5], p[6], lengths[6]);
+    uint64_t returned = seipolku_compare(pointer(&left, c->seed), left.size, pointer(&right, c->seed), right.size, c->limit, p[0], lengths[0], p[1],
+                                         lengths[1], p[2], lengths[2], p[3], lengths[3], p[4], lengths[4]);
     unlock(&left), unlock(&right);
     return returned;
 }
@@ -58,18 +78,48 @@ static int all_kept(int count) {
     return 1;
 }
 
+static uint64_t looked_up(uint64_t root, uint64_t action, const uint64_t *code) {
+    return seipolku_look_up(level.at, level.size, (uint32_t *)(void *)low.at, low.size / 4, (uint32_t *)(void *)high.at, high.size / 4, root, action, code[0],
+                            code[1], code[2], code[3]);
+}
+
+/* NULL if three words of an answer are the expected verdict with its rounds, and after "equal" the root of an iterate that holds the start; else what is
+   wrong. */
+static const char *wrong_verdict(const uint64_t *w, const uint64_t *expected) {
+    static const uint64_t start[4];
+    if (w[0] != expected[0]) return "another verdict";
+    if (w[ROUNDS] != expected[1]) return "other rounds";
+    if (w[0] != EQUAL) return w[ROOT] ? "an iterate shown without \"equal\"" : NULL;
+    return looked_up(w[ROOT], 0, start) == 1 ? NULL : "an iterate that lacks the start";
+}
+
+/* NULL if the table and the words of an answer are what is expected, else what is wrong. */
+static const char *wrong_answer(const uint64_t *w, const uint64_t *expected) {
+    const uint64_t roots[] = {w[LEFT_ROOT], w[RIGHT_ROOT], w[STRONG + ROOT], w[WEAK + ROOT]};
+    const char *why = misshapen(level.at, (uint32_t *)(void *)low.at, (uint32_t *)(void *)high.at, level.size, roots, 4);
+    if (!why) why = wrong_verdict(w + STRONG, expected);
+    if (!why) why = wrong_verdict(w + WEAK, expected + 2);
+    if (!why && w[NODES] != expected[4]) return "other nodes";
+    return why;
+}
+
+/* Whether the words from one on are all 0. */
+static int zero_from(const uint64_t *w, int first) {
+    for (int k = first; k < WORDS; k++)
+        if (w[k]) return 0;
+    return 1;
+}
+
 /* NULL if the call did what is expected, else what it did not. */
 static const char *wrong(const Call *c, uint64_t returned) {
     const uint64_t *w = (const uint64_t *)(void *)answer.at, *e = c->expected;
     if (returned != c->kind) return "another kind of answer";
-    if (returned == SEIPOLKU_SHORT) return all_kept(LENT) ? NULL : "lent memory touched";
-    if (!kept(&answer, 6 * 8)) return "words past the sixth touched";
-    if (returned == SEIPOLKU_REFUSED) {
-        if (w[0] != e[0] || w[1] != e[1] || w[2] != e[2] || w[3] || w[4] || w[5]) return "another refusal";
-        return w[0] > 7 || all_kept(3) ? NULL : "table touched";
-    }
-    if (w[3] != e[0] || w[4] != e[1] || w[5] || (returned == SEIPOLKU_DIFFERENT && w[2])) return "other words";
-    return misshapen(level.at, (uint32_t *)(void *)low.at, (uint32_t *)(void *)high.at, level.size, w, returned == SEIPOLKU_EQUAL ? 3 : 2);
+    if (returned == SHORT) return all_kept(LENT) ? NULL : "lent memory touched";
+    if (!kept(&answer, WORDS * 8)) return "words past the twelfth touched";
+    if (!zero_from(w, returned == REFUSED ? 3 : NODES + 1)) return "a word without a meaning is not 0";
+    if (returned == ANSWERED) return wrong_answer(w, e);
+    if (w[0] != e[0] || w[1] != e[1] || w[2] != e[2]) return "another refusal";
+    return w[0] > 7 || all_kept(3) ? NULL : "table touched";
 }
 
 static void print_text(const char *name, const Slice *text) {
@@ -83,12 +133,18 @@ static void print_text(const char *name, const Slice *text) {
     putchar('\n');
 }
 
+static void print_words(const uint64_t *w, size_t count) {
+    for (size_t k = 0; k < count; k++) printf(" %" PRIu64, w[k]);
+}
+
 static void report_call(const Call *c, uint64_t returned, const char *why) {
-    printf("%s, case %" PRIu64 ": %s\n  expected %" PRIu64 " with %" PRIu64 " %" PRIu64 " %" PRIu64 ", got %" PRIu64 " with", label, current, why, c->kind,
-           c->expected[0], c->expected[1], c->expected[2], returned);
-    for (size_t k = 0; k < answer.size / 8; k++) printf(" %" PRIu64, ((uint64_t *)(void *)answer.at)[k]);
-    printf("\n  mode %" PRIu64 " limit %" PRIu64 " table %" PRIu64 " %" PRIu64 " %" PRIu64 " work %" PRIu64 " %" PRIu64 " %" PRIu64 "\n", c->mode, c->limit,
-           c->table[0], c->table[1], c->table[2], c->work[0], c->work[1], c->work[2]);
+    printf("%s, case %" PRIu64 ": %s\n  expected %" PRIu64 " with", label, current, why, c->kind);
+    print_words(c->expected, EXPECTED);
+    printf(", got %" PRIu64 " with", returned);
+    print_words((const uint64_t *)(void *)answer.at, answer.size / 8);
+    printf("\n  limit %" PRIu64 " table", c->limit);
+    print_words(c->table, 3);
+    printf(" work %" PRIu64 "\n", c->work);
     print_text("left", &left), print_text("right", &right);
 }
 
@@ -111,10 +167,10 @@ static int count(int agrees) {
 static const char *wrongly_told(const uint64_t *expected, uint64_t words) {
     lend_filled(&answer, 8 * words, current + words);
     uint64_t returned = seipolku_model(pointer(&left, current), left.size, pointer(&answer, current + words), words);
-    if (returned != (words < 6 ? SEIPOLKU_SHORT : expected[0])) return "another kind of answer";
-    if (words < 6) return kept(&answer, 0) ? NULL : "lent memory touched";
-    if (memcmp(answer.at, expected + 1, 6 * 8)) return "other words";
-    return kept(&answer, 6 * 8) ? NULL : "words past the sixth touched";
+    if (returned != (words < MODEL_WORDS ? (uint64_t)SHORT : expected[0])) return "another kind of answer";
+    if (words < MODEL_WORDS) return kept(&answer, 0) ? NULL : "lent memory touched";
+    if (memcmp(answer.at, expected + 1, MODEL_WORDS * 8)) return "other words";
+    return kept(&answer, MODEL_WORDS * 8) ? NULL : "words past the sixth touched";
 }
 
 /* Whether the left text's model is told as expected, with 0 to 7 words for the answer. */
@@ -126,7 +182,7 @@ static int told_agrees(const uint64_t *e) {
     unlock(&left);
     if (why && differ < MOST_REPORTS) {
         printf("%s, case %" PRIu64 ": the model told with %" PRIu64 " words: %s\n  expected %" PRIu64 " with", label, current, words - 1, why, e[0]);
-        for (int k = 1; k <= 6; k++) printf(" %" PRIu64, e[k]);
+        print_words(e + 1, MODEL_WORDS);
         putchar('\n');
         print_text("text", &left);
     }
@@ -136,20 +192,21 @@ static int told_agrees(const uint64_t *e) {
 /* One text: what it tells; as the left one beside an empty text; then as the right one beside a model of one state. */
 static void text(void) {
     static const uint8_t beside[] = "000101\n";
-    uint64_t e[10]; /* what is told: the kind and six words; then mode, length, and the refusal where the text is accepted */
+    uint64_t told[1 + MODEL_WORDS], length, answered[1 + EXPECTED]; /* the last: what the comparison gives where the text is accepted as the right one */
     current = number();
     bytes(&left);
-    numbers(e, 10);
-    int refused = e[0] == SEIPOLKU_REFUSED, agrees = told_agrees(e);
+    numbers(told, 1 + MODEL_WORDS), length = number(), numbers(answered, 1 + EXPECTED);
+    int refused = told[0] == REFUSED, agrees = told_agrees(told);
     lend(&right, 0);
-    Call call = {e[7], 0, {e[8], e[8], e[8]}, {e[8], 0, 1}, 6, current, SEIPOLKU_REFUSED, {1, 1, 0}};
-    if (refused) memcpy(call.expected, e + 1, sizeof call.expected);
+    Call call = {0, {length, length, length}, current % 64, WORDS, current, REFUSED, {1, 1, 0}};
+    if (refused) memcpy(call.expected, told + 1, 3 * 8);
     agrees &= call_agrees(&call);
     Slice given = left;
     left = right, right = given;
     lend(&left, sizeof beside - 1);
     memcpy(left.at, beside, left.size);
-    call.expected[0] = refused ? e[1] : e[9], call.expected[1] = refused ? 1 : 2;
+    call.expected[1] = 1;
+    if (!refused) call.kind = answered[0], memcpy(call.expected, answered + 1, sizeof call.expected);
     count(call_agrees(&call) && agrees);
 }
 
@@ -167,8 +224,7 @@ static int call(void) {
 
 /* One look-up; codes are left now, left next, right now, right next. */
 static void look_up(uint64_t root, uint64_t action, const uint64_t *code, uint64_t expected) {
-    uint64_t got = seipolku_look_up(level.at, level.size, (uint32_t *)(void *)low.at, low.size / 4, (uint32_t *)(void *)high.at, high.size / 4, root, action,
-                                    code[0], code[1], code[2], code[3]);
+    uint64_t got = looked_up(root, action, code);
     if (!count(got == expected) && differ <= MOST_REPORTS)
         printf("%s, case %" PRIu64 ": look-up from %" PRIu64 " at action %" PRIu64 ", codes %" PRIu64 " %" PRIu64 " %" PRIu64 " %" PRIu64 ": expected %" PRIu64
                ", got %" PRIu64 "\n", label, current, root, action, code[0], code[1], code[2], code[3], expected, got);
@@ -205,18 +261,19 @@ static void look_up_pairs(uint64_t root, uint64_t left_bits, uint64_t right_bits
         }
 }
 
-/* What the table shows after a verdict. */
-static void shown(int verdict) {
-    static Slice left_steps, right_steps, pairs;
+/* What the table shows after an answer: both relations, and the iterate of each mode that is equal. */
+static void shown(int answered) {
+    static Slice left_steps, right_steps, strong, weak;
     uint64_t h[3]; /* seed, left bits, right bits */
-    const uint64_t *root = (const uint64_t *)(void *)answer.at;
+    const uint64_t *w = (const uint64_t *)(void *)answer.at;
     numbers(h, 3);
-    bytes(&left_steps), bytes(&right_steps), bytes(&pairs);
-    if (!verdict) return;
+    bytes(&left_steps), bytes(&right_steps), bytes(&strong), bytes(&weak);
+    if (!answered) return;
     lock_table();
-    look_up_steps(root[0], h[1], &left_steps, 0, h[0]);
-    look_up_steps(root[1], h[2], &right_steps, 2, h[0]);
-    if (pairs.size) look_up_pairs(root[2], h[1], h[2], &pairs, h[0]);
+    look_up_steps(w[LEFT_ROOT], h[1], &left_steps, 0, h[0]);
+    look_up_steps(w[RIGHT_ROOT], h[2], &right_steps, 2, h[0]);
+    if (strong.size) look_up_pairs(w[STRONG + ROOT], h[1], h[2], &strong, h[0]);
+    if (weak.size) look_up_pairs(w[WEAK + ROOT], h[1], h[2], &weak, h[0]);
     unlock_table();
 }
 
