@@ -1,6 +1,7 @@
 /* The same pairs through the library and through BuDDy, both verdicts from one call: CPU seconds and their ratio.
    bench warm LEFT RIGHT TABLE: nine turns in one process, the medians. One line, tab-separated: strong verdict and rounds, weak verdict and
        rounds, nodes, seconds(library) seconds(BuDDy, each cache) ratio(to the faster BuDDy) nodes/s.
+   bench agree LEFT RIGHT TABLE: each side once; verdicts, rounds and nodes as above, or why they are none.
    bench SIDE LEFT RIGHT TABLE, with SIDE library, small or large: one call in a new process, with what it allocates: its seconds. */
 #include "../include/seipolku.h"
 #include "buddy.h"
@@ -46,8 +47,12 @@ static Table new_table(size_t len) {
 }
 
 static void must_be_answered(uint64_t kind, const uint64_t *answer) {
-    if (kind == 0 && answer[2] != 9 && answer[5] != 9) return;
-    printf("no two verdicts: %lu, %lu %lu %lu\n", (unsigned long)kind, (unsigned long)answer[0], (unsigned long)answer[2], (unsigned long)answer[5]);
+    if (kind != 0)
+        printf("refused %lu\n", (unsigned long)answer[0]);
+    else if (answer[2] == 9 || answer[5] == 9)
+        printf("no verdict by the limit\n");
+    else
+        return;
     exit(1);
 }
 
@@ -119,6 +124,14 @@ static int warm(const Pair *p) {
     return 0;
 }
 
+static int agree(const Pair *p) {
+    Result r = by_library(p, new_table(p->table));
+    buddy_turn(p, cache_of(0, p->table), r);
+    print_result(r);
+    printf("\n");
+    return 0;
+}
+
 static int cold(const Pair *p, const char *side) {
     double a = now();
     if (strcmp(side, "library") == 0) {
@@ -133,9 +146,10 @@ static int cold(const Pair *p, const char *side) {
 
 int main(int argc, char **argv) {
     if (argc != 5) {
-        fprintf(stderr, "usage: %s warm|library|%s|%s LEFT RIGHT TABLE (entries of the table)\n", argv[0], cache_name[0], cache_name[1]);
+        fprintf(stderr, "usage: %s warm|agree|library|%s|%s LEFT RIGHT TABLE (entries of the table)\n", argv[0], cache_name[0], cache_name[1]);
         return 2;
     }
     Pair p = {read_file(argv[2]), read_file(argv[3]), strtoul(argv[4], NULL, 10)};
-    return strcmp(argv[1], "warm") == 0 ? warm(&p) : cold(&p, argv[1]);
+    if (strcmp(argv[1], "warm") == 0) return warm(&p);
+    return strcmp(argv[1], "agree") == 0 ? agree(&p) : cold(&p, argv[1]);
 }

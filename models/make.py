@@ -15,7 +15,7 @@ TAU = "tau"
 LIMIT = 1_000_000
 PROGRAM_TABLE = 4096
 LARGEST_TABLE = 1 << 20
-SMALL_LIST = 1 << 16    # lists of at most so many nodes get further lines in vectors.tsv
+SMALL_TABLE = 1 << 16    # a pair whose list fits it gets further lines in vectors.tsv
 NODES = 1 << 24    # the oracle's room for a list that fits no table
 FULL = "refused 8 2 0"
 MAX_BITS = 24
@@ -664,14 +664,14 @@ def vector(left, text, right, length, result, limit=LIMIT):
 
 
 def vectors(left, right, found):
-    """The pair as vectors lines: with the program's table and with the largest one; if its list is small, also with the
-    table that it just fits and with one entry less, and by limits below the rounds, so that 9 stands in one verdict's place or in both."""
+    """The pair as vectors lines: with the program's table and with the largest one. If its list is small, also with the
+    table that it just fits and with one entry less, and by the limits one below each verdict's rounds."""
     with open(path(left)) as file:
         text = file.read()
     strong, rounds, weak, weak_rounds, nodes = found
     given = f"strong {strong} {rounds} | weak {weak} {weak_rounds} | {nodes}"
     needed = NODES if nodes == "-" else int(nodes) + 2
-    small = needed <= SMALL_LIST
+    small = needed <= SMALL_TABLE
     for length in (PROGRAM_TABLE, LARGEST_TABLE) + ((needed - 1, needed) if small else ()):
         yield vector(left, text, right, length, given if needed <= length else FULL)
     first, last = sorted((int(rounds), int(weak_rounds)))
