@@ -28,6 +28,16 @@ pub enum Mode {
 /// }
 /// assert!(!compared.weak.equal() && !compared.weak.different());
 /// ```
+///
+/// It borrows the table that its bisimulation stands in:
+///
+/// ```compile_fail,E0499
+/// # use seipolku::Table;
+/// # let mut table = Table::new(4096).unwrap();
+/// let strong = table.compare(b"000101\n", b"000101\n", 9).unwrap().strong;
+/// let other = table.compare(b"000102\n", b"000102\n", 9).unwrap();
+/// strong.related(0, 0).unwrap();
+/// ```
 #[derive(Clone, Copy, Debug)]
 pub enum Verdict<'t> {
     /// Some bisimulation relates the starts. `largest` is the root of the largest one.
