@@ -83,23 +83,26 @@ fn limits() {
     folder.write("late.hex", "000103000001010202\n");
     folder.write("met.hex", "000102000201\n010102000301\n02020001\n03030201\n");
     folder.write("tau.hex", "000102000001\n");
-    // Strong different after 1 round, weak equal after 3; strong equal after 2, weak equal after 1.
-    let cases: &[([&str; 2], &str, [i32; 3], [i32; 2])] = &[
-        (["step.hex", "late.hex"], "0", [2, 2, 2], [2, 2]),
-        (["step.hex", "late.hex"], "1", [1, 2, 2], [1, 2]),
-        (["step.hex", "late.hex"], "3", [1, 0, 1], [1, 0]),
-        (["met.hex", "tau.hex"], "1", [2, 0, 2], [2, 0]),
-        (["met.hex", "tau.hex"], "2", [0, 0, 0], [0, 0]),
-        (["met.hex", "tau.hex"], "18446744073709551615", [0, 0, 0], [0, 0]),
-    ];
-    for ([left, right], limit, compared, listed) in cases {
-        let run = |command, mode| folder.run(&[command, left, right, "--limit", limit, "--mode", mode]);
-        assert_eq!(["strong", "weak", "both"].map(|mode| run("compare", mode).status), *compared);
-        assert_eq!(["strong", "weak"].map(|mode| run("pairs", mode).status), *listed);
-        for (mode, status) in ["strong", "weak"].into_iter().zip(compared) {
+    // Strong different after 1 round, weak equal after 3; strong equal after 2, weak equal after 1. The statuses are those of strong and
+    // of weak, and the worst of both.
+    let (late, met) = (["step.hex", "late.hex"], ["met.hex", "tau.hex"]);
+    for (files, limit, statuses) in [
+        (late, "0", [2, 2]),
+        (late, "1", [1, 2]),
+        (late, "3", [1, 0]),
+        (met, "1", [2, 0]),
+        (met, "2", [0, 0]),
+        (met, "18446744073709551615", [0, 0]),
+    ] {
+        let run =
+            |command, mode| folder.run(&[command, files[0], files[1], "--limit", limit, "--mode", mode]);
+        assert_eq!(Some(&run("compare", "both").status), statuses.iter().max(), "{files:?} {limit}");
+        for (mode, status) in ["strong", "weak"].into_iter().zip(statuses) {
+            let [compared, listed] = ["compare", "pairs"].map(|command| run(command, mode));
+            assert_eq!([compared.status, listed.status], [status; 2], "{files:?} {limit} {mode}");
             let explained = format!("Refusal 9, {mode} verdict: ");
-            assert_eq!(run("compare", mode).out.contains(&explained), *status == 2, "{left} {limit} {mode}");
-            assert_eq!(run("pairs", mode).out.starts_with(&explained), *status == 2, "{left} {limit} {mode}");
+            assert_eq!(compared.out.contains(&explained), status == 2, "{}", compared.out);
+            assert_eq!(listed.out.starts_with(&explained), status == 2, "{}", listed.out);
         }
     }
 }
