@@ -2,8 +2,8 @@
 
 mod common;
 
-use common::{answer, shown, LIMIT};
-use seipolku::{model, Comparison, Fault, Mode, Table, TableError, Verdict, CODES, MAX_TABLE};
+use common::{answer, shown, vectors, Vector, LIMIT};
+use seipolku::{model, Comparison, Fault, Mode, Model, Table, TableError, Verdict, CODES, MAX_TABLE};
 
 const P2: [&[u8]; 2] = [b"000102000201\n", b"000103000001010202\n"];
 const P7: [&[u8]; 2] = [b"000102000201\n010102000301\n02020001\n03030201\n", b"000102000001\n"];
@@ -123,6 +123,56 @@ fn one_verdict_by_the_limit() {
     assert_eq!(compared.weak.related(0, 0), Ok(None));
     assert!(matches!(compared.verdict(Mode::Strong), Verdict::Different { rounds: 1 }));
     assert!(matches!(compared.verdict(Mode::Weak), Verdict::Undecided));
+}
+
+/// The steps of both models as now code, action and next code, and the pairs of each bisimulation.
+type Shown = ([Vec<(u64, u64, u64)>; 2], [Option<Vec<(u64, u64)>>; 2]);
+
+fn all_shown(compared: &Comparison<'_>, [left, right]: &[Model; 2]) -> Shown {
+    let mut steps = [Vec::new(), Vec::new()];
+    for now in 0..1 << left.bits {
+        steps[0]
+            .extend(compared.left_steps_from(now, left).unwrap().map(|(action, next)| (now, action, next)));
+    }
+    for now in 0..1 << right.bits {
+        steps[1]
+            .extend(compared.right_steps_from(now, right).unwrap().map(|(action, next)| (now, action, next)));
+    }
+    steps.iter_mut().for_each(|all| all.sort_unstable());
+    let held =
+        |verdict: Verdict<'_>| verdict.equal().then(|| pairs(verdict, 1 << left.bits, 1 << right.bits));
+    (steps, [compared.strong, compared.weak].map(held))
+}
+
+/// On the stored pairs: the steps are the same at every limit, and so is a bisimulation as soon as its verdict falls.
+#[test]
+fn what_is_shown_at_every_limit() {
+    let (mut undecided, mut decided) = (0, 0);
+    let mut table = Table::new(1 << 16).unwrap();
+    for Vector { texts: [left, right], .. } in vectors("tests/vectors.tsv") {
+        let (Ok(one), Ok(other)) = (model(&left), model(&right)) else { continue };
+        let models = [one, other];
+        if models.iter().any(|found| found.bits > 5) {
+            continue;
+        }
+        let all = all_shown(&table.compare(&left, &right, LIMIT).unwrap(), &models);
+        for limit in [0, 1, 2, 3] {
+            let compared = table.compare(&left, &right, limit).unwrap();
+            let (steps, held) = all_shown(&compared, &models);
+            assert_eq!(steps, all.0);
+            for (mode, (found, whole)) in [Mode::Strong, Mode::Weak].into_iter().zip(held.iter().zip(&all.1))
+            {
+                match compared.verdict(mode) {
+                    Verdict::Undecided => undecided += 1,
+                    _ => {
+                        assert_eq!(found, whole);
+                        decided += 1;
+                    }
+                }
+            }
+        }
+    }
+    assert!(undecided > 100 && decided > 100, "{undecided} {decided}");
 }
 
 #[test]
