@@ -183,6 +183,23 @@ fn too_many_weak_steps_to_list() {
     assert!(ran.out.starts_with("512 reachable states, "), "{}", ran.err);
 }
 
+/// A listing asks for no round: the steps of this model fit into the table, and with the rounds of a comparison they do not.
+#[test]
+fn steps_without_rounds() {
+    let folder = folder();
+    let line = |number: u8| {
+        let before = if number == 2 { 0 } else { number - 1 };
+        digits(&[number, 2, before, u8::from(number > 9)]) + "\n"
+    };
+    let lines: String = (2..12).map(line).collect();
+    folder.write("model.hex", format!("000103000201010302020400\n010102000401\n{lines}"));
+    folder.write("idle.hex", "000101\n");
+    fails(&folder, &["steps", "model.hex"], "model.hex has more than 1,000 reachable states");
+    assert!(folder.run(&["compare", "model.hex", "idle.hex"]).out.starts_with("both    refused    8, "));
+    let ran = quick(&folder, &["compare", "model.hex", "idle.hex", "--limit", "0"]);
+    assert!(ran.out.contains("\nboth    1,025,032 nodes, "), "{}", ran.out);
+}
+
 /// One model whose steps no table holds, though a part of it can be listed.
 #[test]
 fn too_many_nodes_to_list() {
