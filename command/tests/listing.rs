@@ -3,7 +3,7 @@
 mod common;
 
 use common::{model, rounds, Folder, Random};
-use seipolku::Table;
+use seipolku::{Table, MAX_TABLE};
 
 const LIMIT: u64 = 1_000_000;
 
@@ -76,7 +76,7 @@ fn steps_are_all_that_hold() {
         let text = model(&mut random, 5).text;
         folder.write("model.hex", &text);
         let found = printed_steps(&folder.done(&["steps", "model.hex", "--all"]));
-        let mut table = Table::new(1 << 16).unwrap();
+        let mut table = Table::new(MAX_TABLE).unwrap();
         let compared = table.compare(text.as_bytes(), text.as_bytes(), LIMIT).unwrap();
         let all = states(&text);
         let mut expected: Vec<Step> = Vec::new();
@@ -108,7 +108,7 @@ fn pairs_are_all_that_hold() {
             .map(|l| l.split_once("  ~  ").unwrap())
             .map(|(l, r)| (numbers(l), numbers(r)))
             .collect();
-        let mut table = Table::new(1 << 16).unwrap();
+        let mut table = Table::new(MAX_TABLE).unwrap();
         let verdict = table.compare(text.as_bytes(), text.as_bytes(), LIMIT).unwrap().weak;
         let all = states(&text);
         let holds = |l: u64, r: u64| verdict.related(l, r).unwrap().unwrap();
