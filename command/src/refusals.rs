@@ -3,9 +3,13 @@
 use crate::culprit::{self, Culprit};
 use crate::files;
 use crate::outcome::{counted, grouped};
+use crate::words::word;
 use seipolku::frames::MOST_USES;
-use seipolku::{Refusal, Side, MAX_BITS, MAX_TABLE};
+use seipolku::{Mode, Refusal, Side, MAX_BITS, MAX_TABLE};
 use std::path::Path;
+
+/// The number that stands in the place of a verdict where none falls by the limit; it refuses no comparison.
+pub const UNDECIDED: u64 = 9;
 
 /// What a comparison was called with.
 pub struct Call<'a> {
@@ -28,7 +32,6 @@ pub fn rule(refusal: &Refusal) -> String {
         }
         7 => "a table has 2 to 1,048,576 entries",
         8 => "the comparison needs more nodes than fit into the table",
-        9 => "no verdict was reached within the limit of rounds",
         _ => "a look-up left the table",
     };
     rule.to_string()
@@ -41,7 +44,6 @@ fn what_to_do(refusal: &Refusal) -> &'static str {
         6 => "use fewer or smaller leaves in this line; n states take as many bits as n - 1 has",
         7 => "give --nodes a number from 2 to 1,048,576",
         8 => "give a larger table with --nodes N, at most 1,048,576, or make the models smaller, with fewer states or fewer leaves",
-        9 => "give a larger limit with --limit N",
         _ => "report this with the models",
     }
 }
@@ -60,7 +62,6 @@ pub fn short(refusal: &Refusal) -> String {
     let words = match (refusal.side, number) {
         (Side::Neither, 7) => "there is no such table".to_string(),
         (Side::Neither, 8) => "the table is full".to_string(),
-        (Side::Neither, 9) => "the limit is reached".to_string(),
         (Side::Neither, _) => rule(refusal),
         _ => format!("line {} of the {} model", refusal.line, side(refusal)),
     };
@@ -85,6 +86,18 @@ pub fn of_comparison(refusal: &Refusal, call: &Call) -> String {
     )
 }
 
+/// What is said of verdicts that did not fall by the limit.
+pub fn of_limit(modes: &[Mode], limit: u64) -> String {
+    let rule = match modes {
+        [mode] => format!("{} verdict: it was not reached within the limit of rounds", word(*mode)),
+        _ => "both verdicts: neither was reached within the limit of rounds".to_string(),
+    };
+    format!(
+        "Refusal {UNDECIDED}, {rule}.\n  The limit is {}.\nWhat to do: give a larger limit with --limit N.\n",
+        grouped(limit)
+    )
+}
+
 fn of_neither(refusal: &Refusal, call: &Call) -> String {
     let number = refusal.fault.number();
     let entries = call.entries;
@@ -93,19 +106,30 @@ fn of_neither(refusal: &Refusal, call: &Call) -> String {
         8 => {
             let room = entries.saturating_sub(2);
             let fit = if room == 1 { "fits" } else { "fit" };
-            format!("  {} {fit} into {}.\n", counted(room, "node"), grouped(entries) + " entries")
+            format!(
+                "  {} {fit} into {} entries. Both verdicts are worked out in one table, so neither is given, also where one alone would fit.\n",
+                counted(room, "node"),
+                grouped(entries)
+            )
         }
-        9 => format!("  The limit is {}.\n", grouped(call.limit)),
         _ => String::new(),
     };
-    format!("Refusal {number}: {}.\n{detail}What to do: {}.\n", rule(refusal), table_advice(refusal, entries))
+    format!("Refusal {number}: {}.\n{detail}What to do: {}.\n", rule(refusal), table_advice(refusal, call))
 }
 
-fn table_advice(refusal: &Refusal, entries: u64) -> &'static str {
-    if refusal.fault.number() == 8 && entries >= MAX_TABLE as u64 {
-        return "make the models smaller, with fewer states or fewer leaves; no table is larger than this one";
+/// A full table of the largest length: no larger one helps, but fewer rounds may need less.
+fn table_advice(refusal: &Refusal, call: &Call) -> String {
+    if refusal.fault.number() != 8 || call.entries < MAX_TABLE as u64 {
+        return what_to_do(refusal).to_string();
     }
-    what_to_do(refusal)
+    let smaller =
+        "make the models smaller, with fewer states or fewer leaves; no table is larger than this one";
+    match call.limit {
+        0 => smaller.to_string(),
+        _ => {
+            format!("{smaller}. A verdict that falls early may be had with a small limit, such as --limit 1")
+        }
+    }
 }
 
 /// The refusal where the steps of one accepted model are listed. `smaller` says what helps where the largest table is full.
@@ -115,7 +139,7 @@ pub fn of_steps(refusal: &Refusal, model: &str, smaller: &str) -> String {
         8 => {
             let entries = grouped(MAX_TABLE as u64);
             let rule = format!(
-                "listing the model's steps needs more nodes than fit into a table of {entries} entries, and none is larger"
+                "the model's steps and weak steps, which are worked out together, need more nodes than fit into a table of {entries} entries, and none is larger"
             );
             (rule, smaller)
         }
