@@ -3,9 +3,10 @@
 use crate::culprit::{self, Culprit};
 use crate::files;
 use crate::outcome::{counted, grouped};
+use crate::proved::Lent;
 use crate::words::word;
 use seipolku::frames::MOST_USES;
-use seipolku::{Mode, Refusal, Side, MAX_BITS, MAX_TABLE};
+use seipolku::{Comparison, Mode, Refusal, Side, MAX_BITS, MAX_TABLE};
 use std::path::Path;
 
 /// The number that stands in the place of a verdict where none falls by the limit; it refuses no comparison.
@@ -48,8 +49,8 @@ fn what_to_do(refusal: &Refusal) -> &'static str {
     }
 }
 
-pub fn side(refusal: &Refusal) -> &'static str {
-    match refusal.side {
+pub fn side(side: Side) -> &'static str {
+    match side {
         Side::Left => "left",
         Side::Right => "right",
         Side::Neither => "neither",
@@ -63,23 +64,23 @@ pub fn short(refusal: &Refusal) -> String {
         (Side::Neither, 7) => "there is no such table".to_string(),
         (Side::Neither, 8) => "the table is full".to_string(),
         (Side::Neither, _) => rule(refusal),
-        _ => format!("line {} of the {} model", refusal.line, side(refusal)),
+        _ => format!("line {} of the {} model", refusal.line, side(refusal.side)),
     };
     format!("{number}, {words}")
 }
 
-/// The refusal of a comparison, several lines long.
-pub fn of_comparison(refusal: &Refusal, call: &Call) -> String {
+/// The refusal of a comparison, several lines long. Its table is free then, and may be asked what helps.
+pub fn of_comparison(refusal: &Refusal, call: &Call, table: &mut Lent) -> String {
     let number = refusal.fault.number();
     let (file, text) = match refusal.side {
-        Side::Neither => return of_neither(refusal, call),
+        Side::Neither => return of_neither(refusal, call, table),
         Side::Left => (call.files[0], call.texts[0]),
         Side::Right => (call.files[1], call.texts[1]),
     };
     format!(
         "Refusal {number}, line {} of the {} model (counted from 0): {}.\n{}What to do: {}.\n",
         refusal.line,
-        side(refusal),
+        side(refusal.side),
         rule(refusal),
         shown(refusal, file, text),
         advice(refusal, file, text)
@@ -87,18 +88,23 @@ pub fn of_comparison(refusal: &Refusal, call: &Call) -> String {
 }
 
 /// What is said of verdicts that did not fall by the limit.
-pub fn of_limit(modes: &[Mode], limit: u64) -> String {
+pub fn of_limit(modes: &[Mode], both: &Comparison, limit: u64) -> String {
     let rule = match modes {
         [mode] => format!("{} verdict: it was not reached within the limit of rounds", word(*mode)),
         _ => "both verdicts: neither was reached within the limit of rounds".to_string(),
     };
+    let known = match both.strong.equal() {
+        true => " The strong verdict is equal, and strongly equal models are weakly equal too.",
+        false => "",
+    };
     format!(
-        "Refusal {UNDECIDED}, {rule}.\n  The limit is {}.\nWhat to do: give a larger limit with --limit N.\n",
+        "Refusal {UNDECIDED}, {rule}.\n  The limit is {}.{known}\n\
+         What to do: give a larger limit with --limit N. More rounds need more nodes, which may lead to refusal 8.\n",
         grouped(limit)
     )
 }
 
-fn of_neither(refusal: &Refusal, call: &Call) -> String {
+fn of_neither(refusal: &Refusal, call: &Call, table: &mut Lent) -> String {
     let number = refusal.fault.number();
     let entries = call.entries;
     let detail = match number {
@@ -114,22 +120,33 @@ fn of_neither(refusal: &Refusal, call: &Call) -> String {
         }
         _ => String::new(),
     };
-    format!("Refusal {number}: {}.\n{detail}What to do: {}.\n", rule(refusal), table_advice(refusal, call))
+    let advice = match number == 8 && entries == MAX_TABLE as u64 {
+        true => largest_advice(call, table),
+        false => what_to_do(refusal).to_string(),
+    };
+    format!("Refusal {number}: {}.\n{detail}What to do: {advice}.\n", rule(refusal))
 }
 
-/// A full table of the largest length: no larger one helps, but fewer rounds may need less.
-fn table_advice(refusal: &Refusal, call: &Call) -> String {
-    if refusal.fault.number() != 8 || call.entries < MAX_TABLE as u64 {
-        return what_to_do(refusal).to_string();
-    }
+/// What helps where the largest table is full. Fewer rounds need fewer nodes, so that a smaller limit may help, but none does where one round
+/// does not fit. That is asked with one more call, which does a part of what the refused one did, unless that one had no more rounds itself.
+fn largest_advice(call: &Call, table: &mut Lent) -> String {
     let smaller =
         "make the models smaller, with fewer states or fewer leaves; no table is larger than this one";
-    match call.limit {
-        0 => smaller.to_string(),
-        _ => {
-            format!("{smaller}. A verdict that falls early may be had with a small limit, such as --limit 1")
+    let [left, right] = call.texts;
+    let one_round = || {
+        table.get().ok()?.compare(left, right, 1).ok().map(|both| (both.strong.rounds(), both.weak.rounds()))
+    };
+    let given = match (call.limit > 1).then(one_round).flatten() {
+        None => {
+            return format!(
+                "{smaller}, and no limit helps: steps, weak steps and a single round need more nodes than fit"
+            )
         }
-    }
+        Some((None, None)) => "no verdict",
+        Some((Some(_), _)) => "the strong verdict",
+        Some((None, Some(_))) => "the weak verdict",
+    };
+    format!("{smaller}. Or give a limit below {} with --limit N: more rounds need more nodes, and a verdict that takes few rounds may fit; --limit 1 gives {given}", grouped(call.limit))
 }
 
 /// The refusal where the steps of one accepted model are listed. `smaller` says what helps where the largest table is full.

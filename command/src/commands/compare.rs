@@ -10,7 +10,7 @@ use crate::progress;
 use crate::proved::{self, ENTRIES, LIMIT};
 use crate::refusals::{self, Call, UNDECIDED};
 use crate::words::word;
-use seipolku::{Comparison, Mode, Refusal, Verdict};
+use seipolku::{Comparison, Mode, Refusal, Side, Verdict};
 use std::path::Path;
 use std::time::Duration;
 
@@ -24,10 +24,16 @@ pub const FORM: Form = Form {
 struct Compared<'a> {
     call: Call<'a>,
     basis: Option<Basis>,
-    answer: Result<Comparison<'a>, Refusal>,
+    answer: Result<Comparison<'a>, Refused>,
     time: Duration,
     /// The verdicts that are shown and decide the exit status.
     modes: Vec<Mode>,
+}
+
+/// A refusal of the whole comparison, with its explanation.
+struct Refused {
+    refusal: Refusal,
+    words: String,
 }
 
 pub fn run(given: &Given) -> Answer {
@@ -41,6 +47,10 @@ pub fn run(given: &Given) -> Answer {
     let quiet = given.flag("--quiet");
     let (answer, time) = progress::timed("comparing", !quiet, || table.get()?.compare(&left, &right, limit));
     let call = Call { files, texts: [&left, &right], entries, limit };
+    let answer = match answer {
+        Ok(both) => Ok(both),
+        Err(refusal) => Err(Refused { refusal, words: refusals::of_comparison(&refusal, &call, &mut table) }),
+    };
     let compared = Compared { call, basis, answer, time, modes };
     let text = match (given.flag("--json"), quiet) {
         (true, _) => compared.json(),
@@ -117,7 +127,9 @@ impl Compared<'_> {
     fn words(&self) -> String {
         let seconds = self.time.as_secs_f64();
         let mut text = match &self.answer {
-            Err(refusal) => line("both", "refused", &format!("{}, {seconds:.3} s", refusals::short(refusal))),
+            Err(Refused { refusal, .. }) => {
+                line("both", "refused", &format!("{}, {seconds:.3} s", refusals::short(refusal)))
+            }
             Ok(both) => {
                 let lines: String =
                     self.modes.iter().map(|mode| self.verdict_line(*mode, both.verdict(*mode))).collect();
@@ -142,11 +154,11 @@ impl Compared<'_> {
     /// The refusal in words, or what 9 means for the verdicts that it stands for.
     fn explanation(&self) -> Option<String> {
         match &self.answer {
-            Err(refusal) => Some(refusals::of_comparison(refusal, &self.call)),
+            Err(refused) => Some(refused.words.clone()),
             Ok(both) => {
                 let undecided = |mode: &&Mode| both.verdict(**mode).rounds().is_none();
                 let modes: Vec<Mode> = self.modes.iter().filter(undecided).copied().collect();
-                (!modes.is_empty()).then(|| refusals::of_limit(&modes, self.call.limit))
+                (!modes.is_empty()).then(|| refusals::of_limit(&modes, both, self.call.limit))
             }
         }
     }
@@ -172,26 +184,29 @@ impl Compared<'_> {
     }
 
     fn json_answer(&self, mode: Mode) -> String {
-        let refused = |number: u64, side: &str, line: u64, words: &str| {
+        let refused = |number: u64, side: Side, line: u64, words: &str| {
+            let line = if side == Side::Neither { "null".to_string() } else { line.to_string() };
             vec![
                 ("verdict", json::string("refused")),
                 ("number", number.to_string()),
-                ("side", json::string(side)),
-                ("line", line.to_string()),
+                ("side", json::string(refusals::side(side))),
+                ("line", line),
                 ("words", json::string(words)),
             ]
         };
         let found = match &self.answer {
-            Err(refusal) => {
-                let words = refusals::of_comparison(refusal, &self.call);
-                refused(refusal.fault.number(), refusals::side(refusal), refusal.line, &words)
+            Err(Refused { refusal, words }) => {
+                refused(refusal.fault.number(), refusal.side, refusal.line, words)
             }
             Ok(both) => match both.verdict(mode).rounds() {
                 Some(rounds) => vec![
                     ("verdict", json::string(verdict_word(both.verdict(mode)))),
                     ("rounds", rounds.to_string()),
                 ],
-                None => refused(UNDECIDED, "neither", 0, &refusals::of_limit(&[mode], self.call.limit)),
+                None => {
+                    let words = refusals::of_limit(&[mode], both, self.call.limit);
+                    refused(UNDECIDED, Side::Neither, 0, &words)
+                }
             },
         };
         json::object(&[vec![("mode", json::string(word(mode)))], found].concat())

@@ -93,11 +93,16 @@ pub fn run(given: &Given) -> Answer {
     let mut table = proved::table(entries)?;
     let texts = [&models[0].text[..], &models[1].text[..]];
     let (answer, _) = progress::timed("comparing", true, || table.get()?.compare(texts[0], texts[1], limit));
-    let (text, status) = match answer.map(|compared| compared.verdict(mode)) {
-        Err(refusal) => (refusals::of_comparison(&refusal, &Call { files, texts, entries, limit }), REFUSED),
-        Ok(Verdict::Equal { largest, .. }) => (equal(largest, &models, &asked, mode, basis.words())?, EQUAL),
-        Ok(Verdict::Different { rounds }) => (different(mode, rounds, basis.words()), DIFFERENT),
-        Ok(Verdict::Undecided) => (refusals::of_limit(&[mode], limit), REFUSED),
+    let (text, status) = match answer.map(|both| (both.verdict(mode), both)) {
+        Err(refusal) => {
+            let call = Call { files, texts, entries, limit };
+            (refusals::of_comparison(&refusal, &call, &mut table), REFUSED)
+        }
+        Ok((Verdict::Equal { largest, .. }, _)) => {
+            (equal(largest, &models, &asked, mode, basis.words())?, EQUAL)
+        }
+        Ok((Verdict::Different { rounds }, _)) => (different(mode, rounds, basis.words()), DIFFERENT),
+        Ok((Verdict::Undecided, both)) => (refusals::of_limit(&[mode], &both, limit), REFUSED),
     };
     Ok(Outcome { text, notes: basis.notes, status })
 }
