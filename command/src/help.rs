@@ -32,16 +32,17 @@ seipolku compare LEFT RIGHT [--mode strong|weak|both] [--limit N] [--nodes N] [-
 
 Compares two model texts, strongly and weakly in one call. It prints a line for each verdict with its rounds, and one with the nodes and
 the time for both. Strong: a step is answered by one step. Weak: internal steps are not counted. A refusal is explained below the lines,
-with its number, side and line, the line itself and what to do.
+with its number and what to do; that of a text also with its side, its line and the line itself.
 
   --mode strong|weak|both   which verdict is printed and decides the exit status. Both are worked out in any case. Default: both.
   --limit N                 the most rounds of each verdict. One that takes more is refused with 9, and the other one is given all the
-                            same. Default: 1,000,000.
+                            same. More rounds need more nodes. Default: 1,000,000.
   --nodes N                 the table's length, 2 to 1,048,576 entries, of which N - 2 hold nodes. Where the nodes of both verdicts
                             together don't fit, neither is given, and the comparison is refused with 8. Default: 1,048,576.
   --by-number               compare though the name tables disagree; the verdict says 'channels by number'.
   --quiet                   print no verdict: the exit status says it. Refusals, errors and notes go to standard error.
-  --json                    print one JSON object, whatever happens.
+  --json                    print one JSON object, whatever happens; docs/FORMS.md says what it has. With --quiet too, the object is
+                            printed, and refusals, errors and notes go to standard error as well.
 
 Channels are compared by number. Two models whose name tables give a number two names or a name two numbers, or have a name as a gate on
 one side and as a channel with directions on the other, are not compared, unless --by-number is given. If a model does not name its

@@ -128,25 +128,28 @@ fn of_neither(refusal: &Refusal, call: &Call, table: &mut Lent) -> String {
 }
 
 /// What helps where the largest table is full. Fewer rounds need fewer nodes, so that a smaller limit may help, but none does where one round
-/// does not fit. That is asked with one more call, which does a part of what the refused one did, unless that one had no more rounds itself.
+/// does not fit. That is asked with one more call, which does a part of what the refused one did.
 fn largest_advice(call: &Call, table: &mut Lent) -> String {
     let smaller =
         "make the models smaller, with fewer states or fewer leaves; no table is larger than this one";
-    let [left, right] = call.texts;
-    let one_round = || {
-        table.get().ok()?.compare(left, right, 1).ok().map(|both| (both.strong.rounds(), both.weak.rounds()))
+    let one_round = match call.limit {
+        0 | 1 => None,
+        _ => table.get().and_then(|table| table.compare(call.texts[0], call.texts[1], 1)).ok(),
     };
-    let given = match (call.limit > 1).then(one_round).flatten() {
-        None => {
-            return format!(
-                "{smaller}, and no limit helps: steps, weak steps and a single round need more nodes than fit"
-            )
+    let Some(both) = one_round else {
+        return format!(
+            "{smaller}, and no limit helps: the steps, the weak steps and a single round need more nodes than fit"
+        );
+    };
+    let given = match [both.strong, both.weak].map(|verdict| verdict.rounds().is_some()) {
+        [true, _] => "the strong verdict",
+        [false, true] => "the weak verdict",
+        [false, false] if call.limit == 2 => {
+            return format!("{smaller}, and no limit helps: --limit 1 gives no verdict")
         }
-        Some((None, None)) => "no verdict",
-        Some((Some(_), _)) => "the strong verdict",
-        Some((None, Some(_))) => "the weak verdict",
+        [false, false] => "no verdict",
     };
-    format!("{smaller}. Or give a limit below {} with --limit N: more rounds need more nodes, and a verdict that takes few rounds may fit; --limit 1 gives {given}", grouped(call.limit))
+    format!("{smaller}. Or give a smaller limit with --limit N: fewer rounds need fewer nodes, and a verdict that takes few of them may fit. --limit 1 gives {given}")
 }
 
 /// The refusal where the steps of one accepted model are listed. `smaller` says what helps where the largest table is full.

@@ -11,6 +11,10 @@ const SHUTTLE: &str = "models/shuttle_one.hex";
 const SERVICE: &str = "models/shuttle_one_service.hex";
 const HANDLER: &str = "models/lotos_handler_no_calls.hex";
 const CALLER: &str = "models/lotos_caller.hex";
+const CELLS9: &str = "models/shuttle9_cells.hex";
+const CELLS16: &str = "models/shuttle16_cells.hex";
+/// With itself: strong equal after 2 rounds, weak after 3.
+const CHAIN: &str = "models/buffer_chain2.hex";
 
 /// Each run by the name of its stored file.
 const RUNS: &[(&str, &[&str])] = &[
@@ -20,6 +24,13 @@ const RUNS: &[(&str, &[&str])] = &[
     ("compare_json", &["compare", "models/abp.hex", "models/abp_service.hex", "--json"]),
     ("compare_small_table", &["compare", "models/abp.hex", "models/abp_service.hex", "--nodes", "4096"]),
     ("compare_too_large", &["compare", "models/philosophers3.hex", "models/philosophers3_ordered.hex"]),
+    (
+        "compare_too_large_for_two",
+        &["compare", "models/philosophers3.hex", "models/philosophers3_ordered.hex", "--limit", "2"],
+    ),
+    ("compare_too_large_for_one", &["compare", CELLS16, "models/shuttle16_service.hex", "--limit", "1"]),
+    ("compare_too_large_for_any", &["compare", CELLS16, "models/shuttle16_service.hex", "--mode", "strong"]),
+    ("compare_too_large_for_nine", &["compare", CELLS9, "models/shuttle9_service.hex", "--limit", "9"]),
     ("compare_table_of_one", &["compare", "models/abp.hex", "models/abp_service.hex", "--nodes", "1"]),
     (
         "compare_limit",
@@ -32,6 +43,9 @@ const RUNS: &[(&str, &[&str])] = &[
     ("compare_weak_undecided_strong", &["compare", SHUTTLE, SERVICE, "--limit", "1", "--mode", "strong"]),
     ("compare_strong_undecided", &["compare", HANDLER, CALLER, "--limit", "3"]),
     ("compare_strong_undecided_json", &["compare", HANDLER, CALLER, "--limit", "3", "--json"]),
+    ("compare_weak_follows", &["compare", CHAIN, CHAIN, "--limit", "2"]),
+    ("compare_weak_follows_quiet", &["compare", CHAIN, CHAIN, "--limit", "2", "--json", "--quiet"]),
+    ("pairs_weak_follows", &["pairs", CHAIN, CHAIN, "--limit", "2"]),
     ("compare_both_undecided", &["compare", SHUTTLE, SERVICE, "--limit", "0"]),
     ("pairs_undecided", &["pairs", HANDLER, CALLER, "--limit", "3", "--mode", "strong"]),
     ("pairs_one_entry_short", &["pairs", SHUTTLE, SERVICE, "--nodes", "2474"]),

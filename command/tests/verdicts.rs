@@ -49,6 +49,31 @@ fn shipped_pairs() {
     }
 }
 
+/// Where the largest table is full, what is said of a limit of 1 is what it gives, and after it no limit is advised.
+#[test]
+fn advised_limits() {
+    let rows = fs::read_to_string(top().join("models/EXPECTED.tsv")).expect("the stored verdicts");
+    let mut advised = 0;
+    for row in rows.lines().filter(|row| row.ends_with("\t-")) {
+        let files: Vec<String> = row.split('\t').take(2).map(|file| format!("models/{file}")).collect();
+        let compare = |more: &[&str]| run(&[&["compare", &files[0], &files[1]], more].concat()).out;
+        let (whole, one) = (compare(&[]), compare(&["--limit", "1"]));
+        let fell = |mode: &str| {
+            one.contains(&format!("{mode:<6}  different")) || one.contains(&format!("{mode:<6}  equal"))
+        };
+        let given = match [fell("strong"), fell("weak")] {
+            [true, _] => "--limit 1 gives the strong verdict.",
+            [_, true] => "--limit 1 gives the weak verdict.",
+            _ if one.contains("Refusal 8") => "no limit helps: the steps, the weak steps and a single round",
+            _ => "--limit 1 gives no verdict.",
+        };
+        assert!(whole.contains("Refusal 8") && whole.contains(given), "{row}: {whole}");
+        assert!(!one.contains("Refusal 8") || !one.contains("--limit"), "{row}: {one}");
+        advised += usize::from(given.starts_with("--limit"));
+    }
+    assert!(advised > 5, "{advised} pairs fit with a limit of 1");
+}
+
 #[test]
 fn statuses() {
     let right = ["models/shuttle_one.hex", "models/shuttle_one_service.hex"];
