@@ -91,8 +91,8 @@ uint64_t seipolku_compare(const uint8_t *left, size_t left_len, const uint8_t *r
  * or 10. 10 is due where the action is above 63 or a code is 2^24 or more, whatever bits the models have, and where the walk leaves the table
  * or its order, or comes to a node of a level above 149 (5 + 6 * 24). From a relation's root, where the now code is a state's: whether the
  * step is derived; at a code that no state has, more than the derived steps may hold. From the root of a verdict that is SEIPOLKU_VERDICT_EQUAL,
- * for now codes within the models' bits: whether the largest bisimulation, strong or weak, holds the two. Test the verdict first: without
- * "equal" its root is 0, which is the constant false, and every look-up from it gives 0. */
+ * for now codes within the models' bits: whether the largest bisimulation, strong or weak, holds the two. Test the verdict first: if it is not
+ * equal, its root is 0, which is the constant false, and a look-up from it gives 0 for every pair. */
 uint64_t seipolku_look_up(const uint8_t *level, size_t level_len, const uint32_t *low, size_t low_len, const uint32_t *high, size_t high_len,
                           uint64_t root, uint64_t action, uint64_t left_now, uint64_t left_next, uint64_t right_now, uint64_t right_next);
 

@@ -84,9 +84,9 @@ fn json_in_every_case() {
         (
             &["compare", "a.hex", "a.hex", "--nodes", "4"],
             2,
-            "\"number\": 8, \"side\": \"neither\", \"line\": 0",
+            "\"number\": 8, \"side\": \"neither\", \"line\": null",
         ),
-        (&["compare", "a.hex", "a.hex", "--nodes", "1"], 2, "\"number\": 7"),
+        (&["compare", "a.hex", "a.hex", "--nodes", "1"], 2, "\"number\": 7, \"side\": \"neither\", \"line\": null"),
         (&["compare", "a.hex", "a.hex", "--limit", "0"], 2, "\"number\": 9"),
         (&["compare", "a.hex", "bad.hex"], 2, "\"nodes\": null, \"seconds\": "),
         (
@@ -98,7 +98,7 @@ fn json_in_every_case() {
         (
             &["compare", "a.hex", "late.hex", "--limit", "1"],
             2,
-            "\"rounds\": 1}, {\"mode\": \"weak\", \"verdict\": \"refused\", \"number\": 9, \"side\": \"neither\", \"line\": 0, ",
+            "\"rounds\": 1}, {\"mode\": \"weak\", \"verdict\": \"refused\", \"number\": 9, \"side\": \"neither\", \"line\": null, ",
         ),
         (&["compare", "a.hex", "a.hex", "--quiet"], 0, "\"verdict\": \"equal\""),
         (&["compare", "a.hex", "named.hex"], 0, "does not name its channels"),
