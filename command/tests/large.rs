@@ -146,7 +146,7 @@ fn too_large_to_list() {
     let folder = folder();
     let reachable =
         "has more than 1,000 reachable states, too many to list. Allow more with --most N, or take";
-    let whatever = "has more than 10,000,000 states and steps, too many to list with any --most. Take a part of the model with --line K.";
+    let whatever = "has more than 10,000,000 states and steps, too many to list with any --most. Take a smaller part of the model with --line K.";
     for file in [&format!("apart{MAX_BITS}.hex"), "rings.hex", "fans.hex"] {
         for words in [&["steps", file][..], &["to-aut", file], &["show", file, "--dot"]] {
             fails(&folder, words, reachable);
@@ -206,7 +206,7 @@ fn too_many_nodes_to_list() {
     let folder = Folder::new();
     folder.write("tangled.hex", tangled());
     let refusal = "tangled.hex: refusal 8: the model's steps and weak steps, which are worked out together, need more nodes than fit \
-                   into a table of 1,048,576 entries, and none is larger. What to do: take a part of the model with --line K.\n";
+                   into a table of 1,048,576 entries, and none is larger. What to do: take a smaller part of the model with --line K.\n";
     for words in [&["steps"][..], &["steps", "--all"], &["to-aut"], &["show", "--dot"]] {
         let ran = quick(&folder, &[words, &["tangled.hex"]].concat());
         let expected = format!("seipolku: {refusal}");
