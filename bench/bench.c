@@ -47,11 +47,11 @@ static Table new_table(size_t len) {
 }
 
 static Verdict verdict_of(uint64_t verdict, uint64_t rounds) {
-    if (verdict == SEIPOLKU_UNDECIDED) {
+    if (verdict == SEIPOLKU_VERDICT_NONE) {
         printf("no verdict by the limit\n");
         exit(1);
     }
-    return (Verdict){verdict == SEIPOLKU_EQUAL, rounds};
+    return (Verdict){verdict == SEIPOLKU_VERDICT_EQUAL, rounds};
 }
 
 static Result by_library(const Pair *p, Table t) {

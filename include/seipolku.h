@@ -13,13 +13,54 @@
 extern "C" {
 #endif
 
-/* What seipolku_compare and seipolku_model return. */
+/* What seipolku_compare and seipolku_model return. It is no verdict: 0 does not say that the models are equal. The two verdicts are words of the
+ * answer, below. Up to 0.1.0 seipolku_compare took other parameters and returned one verdict; its callers must be changed and compiled anew. */
 enum {
-    SEIPOLKU_EQUAL = 0,     /* seipolku_compare. answer: left root, right root, iterate root, rounds, nodes, 0 */
-    SEIPOLKU_ACCEPTED = 0,  /* seipolku_model. answer: bits, lines, leaf uses, states, 0, 0 */
-    SEIPOLKU_DIFFERENT = 1, /* seipolku_compare. answer: left root, right root, 0, rounds, nodes, 0 */
-    SEIPOLKU_REFUSED = 2,   /* answer: number, side (0 left, 1 right, 2 neither), line, 0, 0, 0 */
-    SEIPOLKU_SHORT = 3      /* answer has fewer than 6 words; nothing was touched */
+    SEIPOLKU_ANSWERED = 0, /* seipolku_compare: two verdicts, in the words below */
+    SEIPOLKU_ACCEPTED = 0, /* seipolku_model: what the model is, in the words below */
+    SEIPOLKU_REFUSED = 2,  /* number, side and line, in the words below */
+    SEIPOLKU_SHORT = 3     /* answer has too few words; nothing was touched */
+};
+
+/* How many words an answer has. Those that are not named below are 0; words past these are never touched. */
+enum {
+    SEIPOLKU_ANSWER_WORDS = 12, /* of seipolku_compare */
+    SEIPOLKU_MODEL_WORDS = 6    /* of seipolku_model */
+};
+
+/* The words of an answered comparison. */
+enum {
+    SEIPOLKU_LEFT_ROOT = 0,      /* the relation of the left model */
+    SEIPOLKU_RIGHT_ROOT = 1,     /* that of the right model */
+    SEIPOLKU_STRONG_VERDICT = 2, /* SEIPOLKU_VERDICT_EQUAL, .._DIFFERENT or .._NONE */
+    SEIPOLKU_STRONG_ROUNDS = 3,  /* 0 if there is none */
+    SEIPOLKU_STRONG_ROOT = 4,    /* the largest strong bisimulation if equal, else 0 */
+    SEIPOLKU_WEAK_VERDICT = 5,   /* the same of the weak verdict */
+    SEIPOLKU_WEAK_ROUNDS = 6,
+    SEIPOLKU_WEAK_ROOT = 7,
+    SEIPOLKU_NODES = 8 /* needed for both verdicts together */
+};
+
+/* The values of the words SEIPOLKU_STRONG_VERDICT and SEIPOLKU_WEAK_VERDICT, never of what is returned. */
+enum {
+    SEIPOLKU_VERDICT_EQUAL = 0,
+    SEIPOLKU_VERDICT_DIFFERENT = 1,
+    SEIPOLKU_VERDICT_NONE = 9 /* none by the limit: refusal 9, for this verdict alone */
+};
+
+/* The words of a refusal. Side: 0 left, 1 right, 2 neither. */
+enum {
+    SEIPOLKU_REFUSAL_NUMBER = 0,
+    SEIPOLKU_REFUSAL_SIDE = 1,
+    SEIPOLKU_REFUSAL_LINE = 2
+};
+
+/* The words of an accepted model. */
+enum {
+    SEIPOLKU_MODEL_BITS = 0,
+    SEIPOLKU_MODEL_LINES = 1,
+    SEIPOLKU_MODEL_USES = 2,
+    SEIPOLKU_MODEL_STATES = 3
 };
 
 /* Limits. A line's process has at most so many bits of state, so that codes are below 2^24; levels of nodes go from 0 to the last one; a table
@@ -30,24 +71,28 @@ enum {
     SEIPOLKU_MAX_TABLE = 1048576
 };
 
-/* Compares the models of two texts, in strong mode (0) or weak mode (1), by the iterates up to the limit.
+/* Compares the models of two texts, strongly and weakly, each by its iterates up to the limit.
  *
- * level, low and high are the table: of one length, 2 to 1,048,576. A refusal 1 to 7 leaves them untouched; after a verdict they hold
- * an ordered, reduced table without duplicates, in which seipolku_look_up reads.
- * head, next and memo are for work: any length, also 0, and any content. No answer depends on them, only the time. All work is done in memo
- * (hash index and computed table); head and next are not touched. Lend memo four words an entry, and head and next with length 0. With
- * fewer than two words for each node that is needed the time grows with the square of the nodes that the index does not cover.
+ * Refused are, in this order: 7 a table that does not fit; 1 to 6 the left text, then the right one; 8 where the nodes that both verdicts need
+ * together do not fit into the table, also where those of one of them would. 9 refuses no call: in the place of a verdict that does not fall by
+ * the limit stands SEIPOLKU_VERDICT_NONE, and the other one, the roots and the nodes are given all the same.
+ *
+ * level, low and high are the table: of one length, 2 to 1,048,576. A refusal 1 to 7 leaves them untouched; after 8 their content is free.
+ * After an answer, also without one or both verdicts, they hold an ordered, reduced table without duplicates, in which seipolku_look_up reads.
+ * work is the memory for the hash index and the computed table: any length, also 0, and any content; its content afterwards is free. No answer
+ * depends on it, only the time. Lend it four words an entry. With fewer than two words for each node that is needed the time grows with the
+ * square of the nodes that the index does not cover.
  */
-uint64_t seipolku_compare(const uint8_t *left, size_t left_len, const uint8_t *right, size_t right_len, uint64_t mode, uint64_t limit,
+uint64_t seipolku_compare(const uint8_t *left, size_t left_len, const uint8_t *right, size_t right_len, uint64_t limit,
                           uint8_t *level, size_t level_len, uint32_t *low, size_t low_len, uint32_t *high, size_t high_len,
-                          uint32_t *head, size_t head_len, uint32_t *next, size_t next_len, uint32_t *memo, size_t memo_len,
-                          uint64_t *answer, size_t answer_len);
+                          uint32_t *work, size_t work_len, uint64_t *answer, size_t answer_len);
 
 /* The value at an action and four state codes, from a root of an answer: 0 or 1; or 7 (slices unequal, or of a length that no table has)
  * or 10. 10 is due where the action is above 63 or a code is 2^24 or more, whatever bits the models have, and where the walk leaves the table
  * or its order, or comes to a node of a level above 149 (5 + 6 * 24). From a relation's root, where the now code is a state's: whether the
- * step is derived; at a code that no state has, more than the derived steps may hold. From the iterate's root of "equal", for now codes within
- * the models' bits: whether the largest bisimulation holds the two. */
+ * step is derived; at a code that no state has, more than the derived steps may hold. From the root of a verdict that is SEIPOLKU_VERDICT_EQUAL,
+ * for now codes within the models' bits: whether the largest bisimulation, strong or weak, holds the two. Test the verdict first: if it is not
+ * equal, its root is 0, which is the constant false, and a look-up from it gives 0 for every pair. */
 uint64_t seipolku_look_up(const uint8_t *level, size_t level_len, const uint32_t *low, size_t low_len, const uint32_t *high, size_t high_len,
                           uint64_t root, uint64_t action, uint64_t left_now, uint64_t left_next, uint64_t right_now, uint64_t right_next);
 

@@ -5,7 +5,7 @@ seipolku: whether two models of a system behave the same, by strong and by weak 
 Verdicts, refusals and every step and pair that is listed come from a library whose code is proved; that a listing misses no
 step is tested.
 
-  seipolku compare LEFT RIGHT    verdict, rounds, nodes and time
+  seipolku compare LEFT RIGHT    the strong and the weak verdict, rounds, nodes and time
   seipolku pairs LEFT RIGHT      the largest bisimulation, pair by pair
   seipolku steps MODEL           the steps of a model, state by state
   seipolku show MODEL            a model in words and as an expression, or as a picture
@@ -22,30 +22,34 @@ A text whose .model or .aut file has changed since it was built is refused, with
 a file that it reads. In messages, lines and columns of a file are counted from 1, as editors do; the lines of a model have numbers from
 0, as in --line K.
 
-Exit status: 0 done, or the models are equal; 1 they are different; 2 the library refuses a model or a comparison; 3 wrong words or
-files, name tables that disagree, a text that is older than its source, or a model that is too large to list: nothing was asked of the
-library, or its answer is not printed.
+Exit status: 0 done, or the models are equal; 1 they are different; 2 the library refuses a model, a comparison or a verdict; 3 wrong
+words or files, name tables that disagree, a text that is older than its source, or a model that is too large to list: nothing was asked
+of the library, or its answer is not printed.
 ";
 
 const COMPARE: &str = "\
 seipolku compare LEFT RIGHT [--mode strong|weak|both] [--limit N] [--nodes N] [--by-number] [--quiet] [--json]
 
-Compares two model texts and prints a line for each mode: verdict, rounds, nodes, time. A refusal is explained below the lines, with its
-number, side and line, the line itself and what to do.
+Compares two model texts, strongly and weakly in one call. It prints a line for each verdict with its rounds, and one with the nodes and
+the time for both. Strong: a step is answered by one step. Weak: internal steps are not counted. A refusal is explained below the lines,
+with its number and what to do; that of a text also with its side, its line and the line itself.
 
-  --mode strong|weak|both   strong: a step is answered by one step. weak: internal steps are not counted. Default: both.
-  --limit N                 the most rounds. Default: 1,000,000.
-  --nodes N                 the table's length, 2 to 1,048,576 entries, of which N - 2 hold nodes. Default: 1,048,576.
+  --mode strong|weak|both   which verdict is printed and decides the exit status. Both are worked out in any case. Default: both.
+  --limit N                 the most rounds of each verdict. One that takes more is refused with 9, and the other one is given all the
+                            same. More rounds need more nodes. Default: 1,000,000.
+  --nodes N                 the table's length, 2 to 1,048,576 entries, of which N - 2 hold nodes. Where the nodes of both verdicts
+                            together don't fit, neither is given, and the comparison is refused with 8. Default: 1,048,576.
   --by-number               compare though the name tables disagree; the verdict says 'channels by number'.
   --quiet                   print no verdict: the exit status says it. Refusals, errors and notes go to standard error.
-  --json                    print one JSON object, whatever happens.
+  --json                    print one JSON object, whatever happens; docs/FORMS.md says what it has. With --quiet too, the object is
+                            printed, and refusals, errors and notes go to standard error as well.
 
 Channels are compared by number. Two models whose name tables give a number two names or a name two numbers, or have a name as a gate on
 one side and as a channel with directions on the other, are not compared, unless --by-number is given. If a model does not name its
 channels and the other does, the verdict says 'channels by number'.
 On a terminal the elapsed time is shown while a comparison runs.
-Exit status: 0 equal, 1 different, 2 refused by the library (of two modes the worst); 3 wrong words or files, name tables that disagree,
-or a text that is older than its source.
+Exit status: 0 equal, 1 different, 2 refused by the library (of two verdicts the worst); 3 wrong words or files, name tables that
+disagree, or a text that is older than its source.
 
 Examples:
   seipolku compare models/shuttle_one_faulty.hex models/shuttle_one_service.hex
@@ -59,7 +63,7 @@ seipolku pairs LEFT RIGHT [--mode strong|weak] [--reachable] [--most N] [--limit
 After 'equal', lists every pair of the largest bisimulation between the two models' states, each state leaf by leaf. All states count,
 reachable or not.
 
-  --mode strong|weak   Default: weak.
+  --mode strong|weak   which verdict, and the bisimulation that belongs to it. Default: weak.
   --reachable          only states that can be reached from the starts.
   --most N             the most pairs to ask for, and with --reachable the most states of each model. Default: 1,000,000; at most
                        1,000,000,000, of which 10,000,000 are listed.
@@ -82,8 +86,8 @@ Lists the states that can be reached from the start and their steps, which the o
   --line K   the process of line K in place of the last one.
   --most N   the most states. Default: 1,000. A larger model is not listed at all, nor one with more than 10,000,000 states and steps.
 
-Exit status: 0 done; 2 the library refuses the model, or its steps need a larger table than there is; 3 wrong words or files, a text
-that is older than its source, or a model that is too large to list.
+Exit status: 0 done; 2 the library refuses the model, or its steps and weak steps need a larger table than there is; 3 wrong words or
+files, a text that is older than its source, or a model that is too large to list.
 
 Examples:
   seipolku steps models/shuttle_one.hex
@@ -102,8 +106,8 @@ hide a in P, P |[a]| Q joint.
   --most N   the most states in a picture. Default: 1,000. There is no picture of a larger model, nor of one with more than 10,000,000
              states and steps.
 
-Exit status: 0 done; 2 the library refuses the model, or its steps need a larger table than there is; 3 wrong words or files, a text
-that is older than its source, or a model that is too large for a picture.
+Exit status: 0 done; 2 the library refuses the model, or its steps and weak steps need a larger table than there is; 3 wrong words or
+files, a text that is older than its source, or a model that is too large for a picture.
 
 Examples:
   seipolku show models/shuttle_one.hex
@@ -152,8 +156,8 @@ one leaf that came from an .aut file get their old numbers back. from-aut reads 
   --tau       write internal steps as tau in place of i.
   --out FILE  write to a file, not to standard output.
 
-Exit status: 0 done; 2 the library refuses the model, or its steps need a larger table than there is; 3 wrong words or files, a text
-that is older than its source, or a model that is too large to list.
+Exit status: 0 done; 2 the library refuses the model, or its steps and weak steps need a larger table than there is; 3 wrong words or
+files, a text that is older than its source, or a model that is too large to list.
 
 Examples:
   seipolku to-aut models/shuttle_one.hex

@@ -4,7 +4,7 @@ use std::fmt;
 
 pub const EQUAL: u8 = 0;
 pub const DIFFERENT: u8 = 1;
-/// The library refuses a model or a comparison.
+/// The library refuses a model, a comparison or a verdict.
 pub const REFUSED: u8 = 2;
 /// Wrong words or files, or too large to list: the library is not asked, or its answer is not printed.
 pub const FAILED: u8 = 3;

@@ -2,7 +2,7 @@
 //! step is tested, not proved.
 
 use crate::outcome::{fail, grouped, Failure};
-use seipolku::{model, Fault, Mode, Model, Refusal, Root, Side, Table, TableError, MAX_TABLE};
+use seipolku::{model, Comparison, Fault, Model, Refusal, Root, Side, Table, TableError, MAX_TABLE};
 
 pub const LIMIT: u64 = 1_000_000;
 pub const ENTRIES: u64 = MAX_TABLE as u64;
@@ -30,24 +30,6 @@ impl Lent {
     }
 }
 
-/// What stays of a verdict when its table is used again.
-#[derive(Clone, Copy, Debug)]
-pub struct Verdict {
-    equal: bool,
-    pub rounds: u64,
-    pub nodes: u64,
-}
-
-impl Verdict {
-    pub fn of(shown: seipolku::Verdict<'_>) -> Verdict {
-        Verdict { equal: shown.equal(), rounds: shown.rounds, nodes: shown.nodes }
-    }
-
-    pub fn equal(&self) -> bool {
-        self.equal
-    }
-}
-
 /// Why the library does not accept a text, if it does not.
 pub fn refusal(text: &[u8]) -> Option<Refusal> {
     model(text).err()
@@ -55,15 +37,16 @@ pub fn refusal(text: &[u8]) -> Option<Refusal> {
 
 /// The derived steps of a model, as the library shows them.
 pub struct Relation<'t> {
-    shown: seipolku::Verdict<'t>,
+    shown: Comparison<'t>,
     model: Model,
 }
 
 impl<'t> Relation<'t> {
-    /// Compares with a model that has no steps, which needs few nodes beside the relation.
+    /// Compares with a model that has no steps, up to no round: the relation is shown all the same, and little is worked out beside it
+    /// and its weak answers.
     pub fn of(text: &[u8], table: &'t mut Lent) -> Result<Relation<'t>, Refusal> {
         let model = model(text)?;
-        Ok(Relation { shown: table.get()?.compare(text, IDLE, Mode::Strong, LIMIT)?, model })
+        Ok(Relation { shown: table.get()?.compare(text, IDLE, 0)?, model })
     }
 
     /// The steps from a state, by action and next code, or so many of them. They are found in the table, and the library confirms each one.

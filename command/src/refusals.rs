@@ -3,9 +3,14 @@
 use crate::culprit::{self, Culprit};
 use crate::files;
 use crate::outcome::{counted, grouped};
+use crate::proved::Lent;
+use crate::words::word;
 use seipolku::frames::MOST_USES;
-use seipolku::{Refusal, Side, MAX_BITS, MAX_TABLE};
+use seipolku::{Comparison, Mode, Refusal, Side, MAX_BITS, MAX_TABLE};
 use std::path::Path;
+
+/// The number that stands in the place of a verdict where none falls by the limit; it refuses no comparison.
+pub const UNDECIDED: u64 = 9;
 
 /// What a comparison was called with.
 pub struct Call<'a> {
@@ -28,7 +33,6 @@ pub fn rule(refusal: &Refusal) -> String {
         }
         7 => "a table has 2 to 1,048,576 entries",
         8 => "the comparison needs more nodes than fit into the table",
-        9 => "no verdict was reached within the limit of rounds",
         _ => "a look-up left the table",
     };
     rule.to_string()
@@ -41,13 +45,12 @@ fn what_to_do(refusal: &Refusal) -> &'static str {
         6 => "use fewer or smaller leaves in this line; n states take as many bits as n - 1 has",
         7 => "give --nodes a number from 2 to 1,048,576",
         8 => "give a larger table with --nodes N, at most 1,048,576, or make the models smaller, with fewer states or fewer leaves",
-        9 => "give a larger limit with --limit N",
         _ => "report this with the models",
     }
 }
 
-pub fn side(refusal: &Refusal) -> &'static str {
-    match refusal.side {
+pub fn side(side: Side) -> &'static str {
+    match side {
         Side::Left => "left",
         Side::Right => "right",
         Side::Neither => "neither",
@@ -60,32 +63,48 @@ pub fn short(refusal: &Refusal) -> String {
     let words = match (refusal.side, number) {
         (Side::Neither, 7) => "there is no such table".to_string(),
         (Side::Neither, 8) => "the table is full".to_string(),
-        (Side::Neither, 9) => "the limit is reached".to_string(),
         (Side::Neither, _) => rule(refusal),
-        _ => format!("line {} of the {} model", refusal.line, side(refusal)),
+        _ => format!("line {} of the {} model", refusal.line, side(refusal.side)),
     };
     format!("{number}, {words}")
 }
 
-/// The refusal of a comparison, several lines long.
-pub fn of_comparison(refusal: &Refusal, call: &Call) -> String {
+/// The refusal of a comparison, several lines long. Its table is free then, and may be asked what helps.
+pub fn of_comparison(refusal: &Refusal, call: &Call, table: &mut Lent) -> String {
     let number = refusal.fault.number();
     let (file, text) = match refusal.side {
-        Side::Neither => return of_neither(refusal, call),
+        Side::Neither => return of_neither(refusal, call, table),
         Side::Left => (call.files[0], call.texts[0]),
         Side::Right => (call.files[1], call.texts[1]),
     };
     format!(
         "Refusal {number}, line {} of the {} model (counted from 0): {}.\n{}What to do: {}.\n",
         refusal.line,
-        side(refusal),
+        side(refusal.side),
         rule(refusal),
         shown(refusal, file, text),
         advice(refusal, file, text)
     )
 }
 
-fn of_neither(refusal: &Refusal, call: &Call) -> String {
+/// What is said of verdicts that did not fall by the limit.
+pub fn of_limit(modes: &[Mode], both: &Comparison, limit: u64) -> String {
+    let rule = match modes {
+        [mode] => format!("{} verdict: it was not reached within the limit of rounds", word(*mode)),
+        _ => "both verdicts: neither was reached within the limit of rounds".to_string(),
+    };
+    let known = match both.strong.equal() {
+        true => " The strong verdict is equal, and strongly equal models are weakly equal too.",
+        false => "",
+    };
+    format!(
+        "Refusal {UNDECIDED}, {rule}.\n  The limit is {}.{known}\n\
+         What to do: give a larger limit with --limit N. More rounds need more nodes, which may lead to refusal 8.\n",
+        grouped(limit)
+    )
+}
+
+fn of_neither(refusal: &Refusal, call: &Call, table: &mut Lent) -> String {
     let number = refusal.fault.number();
     let entries = call.entries;
     let detail = match number {
@@ -93,19 +112,44 @@ fn of_neither(refusal: &Refusal, call: &Call) -> String {
         8 => {
             let room = entries.saturating_sub(2);
             let fit = if room == 1 { "fits" } else { "fit" };
-            format!("  {} {fit} into {}.\n", counted(room, "node"), grouped(entries) + " entries")
+            format!(
+                "  {} {fit} into {} entries. Both verdicts are worked out in one table, so neither is given, also where one alone would fit.\n",
+                counted(room, "node"),
+                grouped(entries)
+            )
         }
-        9 => format!("  The limit is {}.\n", grouped(call.limit)),
         _ => String::new(),
     };
-    format!("Refusal {number}: {}.\n{detail}What to do: {}.\n", rule(refusal), table_advice(refusal, entries))
+    let advice = match number == 8 && entries == MAX_TABLE as u64 {
+        true => largest_advice(call, table),
+        false => what_to_do(refusal).to_string(),
+    };
+    format!("Refusal {number}: {}.\n{detail}What to do: {advice}.\n", rule(refusal))
 }
 
-fn table_advice(refusal: &Refusal, entries: u64) -> &'static str {
-    if refusal.fault.number() == 8 && entries >= MAX_TABLE as u64 {
-        return "make the models smaller, with fewer states or fewer leaves; no table is larger than this one";
-    }
-    what_to_do(refusal)
+/// What helps where the largest table is full. Fewer rounds need fewer nodes, so that a smaller limit may help, but none does where one round
+/// does not fit. That is asked with one more call, which does a part of what the refused one did.
+fn largest_advice(call: &Call, table: &mut Lent) -> String {
+    let smaller =
+        "make the models smaller, with fewer states or fewer leaves; no table is larger than this one";
+    let one_round = match call.limit {
+        0 | 1 => None,
+        _ => table.get().and_then(|table| table.compare(call.texts[0], call.texts[1], 1)).ok(),
+    };
+    let Some(both) = one_round else {
+        return format!(
+            "{smaller}, and no limit helps: the steps, the weak steps and a single round need more nodes than fit"
+        );
+    };
+    let given = match [both.strong, both.weak].map(|verdict| verdict.rounds().is_some()) {
+        [true, _] => "the strong verdict",
+        [false, true] => "the weak verdict",
+        [false, false] if call.limit == 2 => {
+            return format!("{smaller}, and no limit helps: --limit 1 gives no verdict")
+        }
+        [false, false] => "no verdict",
+    };
+    format!("{smaller}. Or give a smaller limit with --limit N: fewer rounds need fewer nodes, and a verdict that takes few of them may fit. --limit 1 gives {given}")
 }
 
 /// The refusal where the steps of one accepted model are listed. `smaller` says what helps where the largest table is full.
@@ -115,7 +159,7 @@ pub fn of_steps(refusal: &Refusal, model: &str, smaller: &str) -> String {
         8 => {
             let entries = grouped(MAX_TABLE as u64);
             let rule = format!(
-                "listing the model's steps needs more nodes than fit into a table of {entries} entries, and none is larger"
+                "the model's steps and weak steps, which are worked out together, need more nodes than fit into a table of {entries} entries, and none is larger"
             );
             (rule, smaller)
         }

@@ -1,6 +1,7 @@
-//! How names and actions are written.
+//! How names, actions and kinds of verdicts are written.
 
 use crate::names::Names;
+use seipolku::Mode;
 use std::path::Path;
 
 /// A character of a name that needs no quotes.
@@ -65,4 +66,12 @@ pub fn short_action(number: u8, names: &Names) -> String {
 /// Names of channels with commas.
 pub fn channel_list(channels: &[u8], names: &Names) -> String {
     channels.iter().map(|c| spelled(&names.channel(*c))).collect::<Vec<_>>().join(", ")
+}
+
+/// Which verdict it is.
+pub fn word(mode: Mode) -> &'static str {
+    match mode {
+        Mode::Strong => "strong",
+        Mode::Weak => "weak",
+    }
 }

@@ -25,6 +25,11 @@ fn composed(uses: u32) -> String {
     chain("000102000201010300", uses, "02", "")
 }
 
+/// The same, where each leaf steps alone and none meet.
+fn apart(uses: u32) -> String {
+    chain("000102000201010300", uses, "06", "")
+}
+
 /// Leaves of 64 states in a ring, each alone.
 fn rings(uses: u32) -> String {
     let ring: String = (0..64).map(|s| format!("{s:02X}02{:02X}", (s + 1) % 64)).collect();
@@ -55,6 +60,7 @@ fn folder() -> Folder {
     for bits in [20, 21, MAX_BITS, MAX_BITS + 1] {
         folder.write(&format!("joined{bits}.hex"), joined(bits));
         folder.write(&format!("composed{bits}.hex"), composed(bits));
+        folder.write(&format!("apart{bits}.hex"), apart(bits));
     }
     folder.write("joined1.hex", joined(1));
     folder.write("rings.hex", rings(MAX_BITS / 6));
@@ -82,7 +88,7 @@ fn sizes() {
     let folder = folder();
     for (bits, states) in [(20, "1,048,576"), (21, "2,097,152"), (24, "16,777,216")] {
         let size = format!("{bits} lines, 1 leaf line, {bits} leaf uses, {bits} bits, {states} states");
-        for file in [format!("joined{bits}.hex"), format!("composed{bits}.hex")] {
+        for file in ["joined", "composed", "apart"].map(|name| format!("{name}{bits}.hex")) {
             assert_eq!(folder.done(&["check", &file]), format!("{file}: accepted: {size}.\n"));
             assert!(folder.done(&["show", &file]).starts_with(&format!("{file}: {size}\n")));
         }
@@ -120,15 +126,17 @@ fn steps_of_joined_leaves() {
 fn verdicts() {
     let folder = folder();
     for bits in [20, 21, MAX_BITS] {
-        let (joined, composed) = (format!("joined{bits}.hex"), format!("composed{bits}.hex"));
+        let [joined, composed, apart] =
+            ["joined", "composed", "apart"].map(|name| format!("{name}{bits}.hex"));
         let equal = quick(&folder, &["compare", &joined, "joined1.hex"]);
         assert_eq!(equal.status, 0, "{}", equal.out);
         assert!(
-            equal.out.contains("strong  equal      2 rounds, ")
-                && equal.out.contains("weak    equal      2 rounds, ")
+            equal.out.starts_with("strong  equal      2 rounds\nweak    equal      2 rounds\nboth    "),
+            "{}",
+            equal.out
         );
-        let json = quick(&folder, &["compare", "joined1.hex", &composed, "--mode", "strong", "--json"]);
-        assert!(json.out.contains("\"verdict\": \"different\""), "{}", json.out);
+        let json = quick(&folder, &["compare", "joined1.hex", &apart, "--mode", "strong", "--json"]);
+        assert!(json.out.contains("\"verdict\": \"different\", \"rounds\": 2"), "{}", json.out);
         assert_eq!(quick(&folder, &["compare", &composed, &composed]).status, 2);
     }
 }
@@ -138,8 +146,8 @@ fn too_large_to_list() {
     let folder = folder();
     let reachable =
         "has more than 1,000 reachable states, too many to list. Allow more with --most N, or take";
-    let whatever = "has more than 10,000,000 states and steps, too many to list with any --most. Take a part of the model with --line K.";
-    for file in [&format!("composed{MAX_BITS}.hex"), "rings.hex", "fans.hex"] {
+    let whatever = "has more than 10,000,000 states and steps, too many to list with any --most. Take a smaller part of the model with --line K.";
+    for file in [&format!("apart{MAX_BITS}.hex"), "rings.hex", "fans.hex"] {
         for words in [&["steps", file][..], &["to-aut", file], &["show", file, "--dot"]] {
             fails(&folder, words, reachable);
         }
@@ -158,13 +166,47 @@ fn too_large_to_list() {
     fails(&folder, &[&rings[..], &["--most", "281474976710656"]].concat(), advice);
 }
 
+/// Weak steps are worked out with the steps, and where the leaves meet they may need more nodes than a table holds: the same leaves are
+/// listed where they don't meet.
+#[test]
+fn too_many_weak_steps_to_list() {
+    let folder = folder();
+    for file in ["composed21.hex", "composed24.hex"] {
+        for words in [&["steps", file][..], &["to-aut", file], &["show", file, "--dot"]] {
+            let ran = quick(&folder, words);
+            assert_eq!((ran.status, ran.out.as_str()), (2, ""), "{words:?}: {}", ran.err);
+            assert!(ran.err.starts_with(&format!("seipolku: {file}: refusal 8: ")), "{}", ran.err);
+        }
+    }
+    assert!(folder.done(&["steps", "composed24.hex", "--line", "8"]).starts_with("512 reachable states, "));
+    let ran = quick(&folder, &["steps", "apart24.hex", "--line", "8"]);
+    assert!(ran.out.starts_with("512 reachable states, "), "{}", ran.err);
+}
+
+/// A listing asks for no round: the steps of this model fit into the table, and with the rounds of a comparison they do not.
+#[test]
+fn steps_without_rounds() {
+    let folder = folder();
+    let line = |number: u8| {
+        let before = if number == 2 { 0 } else { number - 1 };
+        digits(&[number, 2, before, u8::from(number > 9)]) + "\n"
+    };
+    let lines: String = (2..12).map(line).collect();
+    folder.write("model.hex", format!("000103000201010302020400\n010102000401\n{lines}"));
+    folder.write("idle.hex", "000101\n");
+    fails(&folder, &["steps", "model.hex"], "model.hex has more than 1,000 reachable states");
+    assert!(folder.run(&["compare", "model.hex", "idle.hex"]).out.starts_with("both    refused    8, "));
+    let ran = quick(&folder, &["compare", "model.hex", "idle.hex", "--limit", "0"]);
+    assert!(ran.out.contains("\nboth    1,025,032 nodes, "), "{}", ran.out);
+}
+
 /// One model whose steps no table holds, though a part of it can be listed.
 #[test]
 fn too_many_nodes_to_list() {
     let folder = Folder::new();
     folder.write("tangled.hex", tangled());
-    let refusal = "tangled.hex: refusal 8: listing the model's steps needs more nodes than fit into a table of 1,048,576 entries, and \
-                   none is larger. What to do: take a part of the model with --line K.\n";
+    let refusal = "tangled.hex: refusal 8: the model's steps and weak steps, which are worked out together, need more nodes than fit \
+                   into a table of 1,048,576 entries, and none is larger. What to do: take a smaller part of the model with --line K.\n";
     for words in [&["steps"][..], &["steps", "--all"], &["to-aut"], &["show", "--dot"]] {
         let ran = quick(&folder, &[words, &["tangled.hex"]].concat());
         let expected = format!("seipolku: {refusal}");
@@ -179,12 +221,14 @@ fn too_many_nodes_to_list() {
 #[test]
 fn pairs_compare_first() {
     let folder = folder();
-    let composed = format!("composed{MAX_BITS}.hex");
+    let [composed, apart] = ["composed", "apart"].map(|name| format!("{name}{MAX_BITS}.hex"));
     for reachable in [&[][..], &["--reachable"]] {
-        let ran =
-            quick(&folder, &[&["pairs", "joined1.hex", &composed, "--mode", "strong"], reachable].concat());
-        assert_eq!((ran.status, ran.err.as_str()), (1, ""), "{}", ran.out);
-        assert!(ran.out.starts_with("strong different ("), "{}", ran.out);
+        for (mode, expected) in [("strong", "strong different ("), ("weak", "weak different (")] {
+            let ran =
+                quick(&folder, &[&["pairs", "joined1.hex", &apart, "--mode", mode], reachable].concat());
+            assert_eq!((ran.status, ran.err.as_str()), (1, ""), "{}", ran.out);
+            assert!(ran.out.starts_with(expected), "{}", ran.out);
+        }
         let ran = quick(&folder, &[&["pairs", &composed, &composed], reachable].concat());
         assert_eq!((ran.status, ran.err.as_str()), (2, ""), "{}", ran.out);
         assert!(ran.out.starts_with("Refusal 8: "), "{}", ran.out);
@@ -237,7 +281,7 @@ fn parts_are_listed() {
 fn one_bit_more() {
     let folder = folder();
     let rule = "refusal 6, line 24 of the model (counted from 0): a line's process has at most 24 bits of state and 64 uses of leaves.";
-    for file in ["joined25.hex", "composed25.hex"] {
+    for file in ["joined25.hex", "composed25.hex", "apart25.hex"] {
         for command in [
             &["check"][..],
             &["show"],

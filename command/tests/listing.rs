@@ -3,7 +3,7 @@
 mod common;
 
 use common::{model, rounds, Folder, Random};
-use seipolku::{Mode, Table};
+use seipolku::{Table, MAX_TABLE};
 
 const LIMIT: u64 = 1_000_000;
 
@@ -76,14 +76,14 @@ fn steps_are_all_that_hold() {
         let text = model(&mut random, 5).text;
         folder.write("model.hex", &text);
         let found = printed_steps(&folder.done(&["steps", "model.hex", "--all"]));
-        let mut table = Table::new(1 << 16).unwrap();
-        let verdict = table.compare(text.as_bytes(), text.as_bytes(), Mode::Strong, LIMIT).unwrap();
+        let mut table = Table::new(MAX_TABLE).unwrap();
+        let compared = table.compare(text.as_bytes(), text.as_bytes(), LIMIT).unwrap();
         let all = states(&text);
         let mut expected: Vec<Step> = Vec::new();
         for (now, parts) in &all {
             for action in 0..64 {
                 for (next, next_parts) in &all {
-                    if verdict.left_steps(action, *now, *next).unwrap() {
+                    if compared.left_steps(action, *now, *next).unwrap() {
                         expected.push((parts.clone(), action, next_parts.clone()));
                     }
                 }
@@ -108,8 +108,8 @@ fn pairs_are_all_that_hold() {
             .map(|l| l.split_once("  ~  ").unwrap())
             .map(|(l, r)| (numbers(l), numbers(r)))
             .collect();
-        let mut table = Table::new(1 << 16).unwrap();
-        let verdict = table.compare(text.as_bytes(), text.as_bytes(), Mode::Weak, LIMIT).unwrap();
+        let mut table = Table::new(MAX_TABLE).unwrap();
+        let verdict = table.compare(text.as_bytes(), text.as_bytes(), LIMIT).unwrap().weak;
         let all = states(&text);
         let holds = |l: u64, r: u64| verdict.related(l, r).unwrap().unwrap();
         let mut expected = Vec::new();

@@ -42,7 +42,7 @@ fn by_number_says_so() {
     let note = "note: channels are compared by number, though the name tables disagree: 1 is 'move'";
     let ran = run(&["compare", left, right, "--by-number", "--mode", "weak"]);
     assert!(
-        ran.out.starts_with("weak    equal      2 rounds, 2,225 nodes, channels by number, "),
+        ran.out.starts_with("weak    equal      2 rounds, channels by number\nboth    2,473 nodes, "),
         "{}",
         ran.out
     );
@@ -101,7 +101,7 @@ fn without_names() {
         let folder = pair(left, right);
         let ran = folder.run(&["compare", "left.hex", "right.hex"]);
         assert_eq!(ran.status, 0, "{}", ran.err);
-        assert_eq!(ran.out.matches(", channels by number, ").count(), if note.is_some() { 2 } else { 0 });
+        assert_eq!(ran.out.matches(", channels by number\n").count(), if note.is_some() { 2 } else { 0 });
         let note = note.unwrap_or_default();
         assert_eq!(ran.err, note);
         let json = folder.done(&["compare", "left.hex", "right.hex", "--json"]);

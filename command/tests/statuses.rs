@@ -69,6 +69,7 @@ fn json_in_every_case() {
     let folder = Folder::new();
     folder.write("a.hex", "000102000201\n");
     folder.write("b.hex", "000102000401\n");
+    folder.write("late.hex", "000103000001010202\n");
     folder.write("bad.hex", "000102000202\n");
     folder.write("named.hex", "000102000201\n");
     folder.write("named.names", "channel 1 a\n");
@@ -83,10 +84,22 @@ fn json_in_every_case() {
         (
             &["compare", "a.hex", "a.hex", "--nodes", "4"],
             2,
-            "\"number\": 8, \"side\": \"neither\", \"line\": 0",
+            "\"number\": 8, \"side\": \"neither\", \"line\": null",
         ),
-        (&["compare", "a.hex", "a.hex", "--nodes", "1"], 2, "\"number\": 7"),
+        (&["compare", "a.hex", "a.hex", "--nodes", "1"], 2, "\"number\": 7, \"side\": \"neither\", \"line\": null"),
         (&["compare", "a.hex", "a.hex", "--limit", "0"], 2, "\"number\": 9"),
+        (&["compare", "a.hex", "bad.hex"], 2, "\"nodes\": null, \"seconds\": "),
+        (
+            &["compare", "a.hex", "a.hex", "--mode", "weak"],
+            0,
+            "\"answers\": [{\"mode\": \"weak\", \"verdict\": \"equal\", \"rounds\": 2}], \"nodes\": ",
+        ),
+        (&["compare", "a.hex", "late.hex", "--limit", "1", "--mode", "strong"], 1, "\"rounds\": 1}], "),
+        (
+            &["compare", "a.hex", "late.hex", "--limit", "1"],
+            2,
+            "\"rounds\": 1}, {\"mode\": \"weak\", \"verdict\": \"refused\", \"number\": 9, \"side\": \"neither\", \"line\": null, ",
+        ),
         (&["compare", "a.hex", "a.hex", "--quiet"], 0, "\"verdict\": \"equal\""),
         (&["compare", "a.hex", "named.hex"], 0, "does not name its channels"),
         (&["compare", "other.hex", "named.hex"], 3, "the name tables disagree"),

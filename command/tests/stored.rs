@@ -7,28 +7,55 @@ use common::{run, Folder, Ran};
 use std::fs;
 use std::path::Path;
 
+const SHUTTLE: &str = "models/shuttle_one.hex";
+const SERVICE: &str = "models/shuttle_one_service.hex";
+const HANDLER: &str = "models/lotos_handler_no_calls.hex";
+const CALLER: &str = "models/lotos_caller.hex";
+const CELLS9: &str = "models/shuttle9_cells.hex";
+const CELLS16: &str = "models/shuttle16_cells.hex";
+/// With itself: strong equal after 2 rounds, weak after 3.
+const CHAIN: &str = "models/buffer_chain2.hex";
+
 /// Each run by the name of its stored file.
 const RUNS: &[(&str, &[&str])] = &[
     ("compare_faulty", &["compare", "models/shuttle_one_faulty.hex", "models/shuttle_one_service.hex"]),
-    ("compare_right", &["compare", "models/shuttle_one.hex", "models/shuttle_one_service.hex"]),
-    (
-        "compare_weak",
-        &["compare", "models/shuttle_one.hex", "models/shuttle_one_service.hex", "--mode", "weak"],
-    ),
+    ("compare_right", &["compare", SHUTTLE, SERVICE]),
+    ("compare_weak", &["compare", SHUTTLE, SERVICE, "--mode", "weak"]),
     ("compare_json", &["compare", "models/abp.hex", "models/abp_service.hex", "--json"]),
     ("compare_small_table", &["compare", "models/abp.hex", "models/abp_service.hex", "--nodes", "4096"]),
     ("compare_too_large", &["compare", "models/philosophers3.hex", "models/philosophers3_ordered.hex"]),
+    (
+        "compare_too_large_for_two",
+        &["compare", "models/philosophers3.hex", "models/philosophers3_ordered.hex", "--limit", "2"],
+    ),
+    ("compare_too_large_for_one", &["compare", CELLS16, "models/shuttle16_service.hex", "--limit", "1"]),
+    ("compare_too_large_for_any", &["compare", CELLS16, "models/shuttle16_service.hex", "--mode", "strong"]),
+    ("compare_too_large_for_nine", &["compare", CELLS9, "models/shuttle9_service.hex", "--limit", "9"]),
     ("compare_table_of_one", &["compare", "models/abp.hex", "models/abp_service.hex", "--nodes", "1"]),
     (
         "compare_limit",
         &["compare", "models/shuttle1.hex", "models/shuttle1_service.hex", "--mode=weak", "--limit=2"],
     ),
+    ("compare_just_fits", &["compare", SHUTTLE, SERVICE, "--nodes", "2475"]),
+    ("compare_one_entry_short", &["compare", SHUTTLE, SERVICE, "--nodes", "2474", "--mode", "strong"]),
+    ("compare_one_entry_short_json", &["compare", SHUTTLE, SERVICE, "--nodes", "2474", "--json"]),
+    ("compare_weak_undecided", &["compare", SHUTTLE, SERVICE, "--limit", "1"]),
+    ("compare_weak_undecided_strong", &["compare", SHUTTLE, SERVICE, "--limit", "1", "--mode", "strong"]),
+    ("compare_strong_undecided", &["compare", HANDLER, CALLER, "--limit", "3"]),
+    ("compare_strong_undecided_json", &["compare", HANDLER, CALLER, "--limit", "3", "--json"]),
+    ("compare_weak_follows", &["compare", CHAIN, CHAIN, "--limit", "2"]),
+    ("compare_weak_follows_quiet", &["compare", CHAIN, CHAIN, "--limit", "2", "--json", "--quiet"]),
+    ("pairs_weak_follows", &["pairs", CHAIN, CHAIN, "--limit", "2"]),
+    ("compare_both_undecided", &["compare", SHUTTLE, SERVICE, "--limit", "0"]),
+    ("pairs_undecided", &["pairs", HANDLER, CALLER, "--limit", "3", "--mode", "strong"]),
+    ("pairs_one_entry_short", &["pairs", SHUTTLE, SERVICE, "--nodes", "2474"]),
+    ("steps_too_many_nodes", &["steps", "models/shuttle16_cells.hex"]),
     ("compare_table_of_three", &["compare", "models/abp.hex", "models/abp_service.hex", "--nodes", "3"]),
     ("compare_other_names", &["compare", "models/shuttle_one.hex", "models/abp_service.hex"]),
     ("compare_by_number", &["compare", "models/shuttle_one.hex", "models/abp_service.hex", "--by-number"]),
     ("compare_json_error", &["compare", "models/shuttle_one.hex", "models/nothing.hex", "--json"]),
     ("pairs_by_number", &["pairs", "models/shuttle_one.hex", "models/abp_service.hex", "--by-number"]),
-    ("pairs_right", &["pairs", "models/shuttle_one.hex", "models/shuttle_one_service.hex"]),
+    ("pairs_right", &["pairs", SHUTTLE, SERVICE]),
     ("pairs_faulty", &["pairs", "models/shuttle_one_faulty.hex", "models/shuttle_one_service.hex"]),
     ("pairs_strong", &["pairs", "models/buffer_bag2.hex", "models/buffer_places2.hex", "--mode", "strong"]),
     ("pairs_reachable", &["pairs", "models/shuttle1.hex", "models/shuttle1_service.hex", "--reachable"]),

@@ -6,7 +6,6 @@ extern "C" {
         left_len: usize,
         right: *const u8,
         right_len: usize,
-        mode: u64,
         limit: u64,
         level: *mut u8,
         level_len: usize,
@@ -14,12 +13,8 @@ extern "C" {
         low_len: usize,
         high: *mut u32,
         high_len: usize,
-        head: *mut u32,
-        head_len: usize,
-        next: *mut u32,
-        next_len: usize,
-        memo: *mut u32,
-        memo_len: usize,
+        work: *mut u32,
+        work_len: usize,
         answer: *mut u64,
         answer_len: usize,
     ) -> u64;
@@ -44,3 +39,13 @@ extern "C" {
 
 /// What a call returns with a refusal in its answer.
 pub const REFUSED: u64 = 2;
+
+/// How many words the answer of `seipolku_compare` has.
+pub const ANSWER_WORDS: usize = 12;
+
+/// How many that of `seipolku_model` has.
+pub const MODEL_WORDS: usize = 6;
+
+/// The values of a verdict; the third one is 9, no verdict by the limit.
+pub const EQUAL: u64 = 0;
+pub const DIFFERENT: u64 = 1;

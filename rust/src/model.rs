@@ -27,11 +27,11 @@ pub struct Model {
 ///
 /// If these places do not add up to the numbers of the library, which would be a fault of this crate.
 pub fn model(text: &[u8]) -> Result<Model, Refusal> {
-    let mut answer = [0u64; 6];
+    let mut answer = [0; ffi::MODEL_WORDS];
     // SAFETY: each pointer comes with the length of its slice; the library writes to the answer only.
     let kind = unsafe { ffi::seipolku_model(text.as_ptr(), text.len(), answer.as_mut_ptr(), answer.len()) };
     if kind == ffi::REFUSED {
-        return Err(Refusal::of(answer));
+        return Err(Refusal::of(answer[0], answer[1], answer[2]));
     }
     let [bits, lines, uses, states, ..] = answer;
     let decoded = Lines::decode(text).unwrap_or_default();

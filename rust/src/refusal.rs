@@ -12,7 +12,8 @@ pub enum Side {
     Neither,
 }
 
-/// What is wrong, by document 01's numbers.
+/// What is wrong, by document 01's numbers. 9 is not among them: it stands in the place of a verdict, as
+/// [`Verdict::Undecided`](crate::Verdict::Undecided).
 #[derive(Clone, Copy, Debug, PartialEq, Eq)]
 pub enum Fault {
     /// 1: an empty text, a byte that is no digit, an odd number of digits, or a line without its end.
@@ -27,12 +28,10 @@ pub enum Fault {
     Range,
     /// 6: more than [`MAX_BITS`] bits or 64 leaf uses.
     Limits,
-    /// 7: a table that does not fit, or no such mode.
+    /// 7: a table that does not fit.
     Table,
-    /// 8: more nodes needed than fit.
+    /// 8: the nodes that both verdicts need together do not fit.
     Full,
-    /// 9: no verdict by the limit.
-    Spent,
     /// 10: a look-up's number out of range, or a walk that leaves the table or its order.
     LookUp,
 }
@@ -49,7 +48,6 @@ impl Fault {
             Fault::Limits => 6,
             Fault::Table => 7,
             Fault::Full => 8,
-            Fault::Spent => 9,
             Fault::LookUp => 10,
         }
     }
@@ -64,7 +62,6 @@ impl Fault {
             6 => Fault::Limits,
             7 => Fault::Table,
             8 => Fault::Full,
-            9 => Fault::Spent,
             _ => Fault::LookUp,
         }
     }
@@ -81,7 +78,6 @@ impl Fault {
             }
             Fault::Table => "the table does not fit",
             Fault::Full => "the comparison needs more nodes than fit into the table",
-            Fault::Spent => "no verdict within the limit of rounds",
             Fault::LookUp => "a number out of range, or a walk that leaves the table",
         };
         words.to_string()
@@ -97,14 +93,14 @@ pub struct Refusal {
 }
 
 impl Refusal {
-    /// The refusal that the words of an answer tell.
-    pub(crate) fn of(answer: [u64; 6]) -> Refusal {
-        let side = match answer[1] {
+    /// The refusal that the first words of an answer tell.
+    pub(crate) fn of(number: u64, side: u64, line: u64) -> Refusal {
+        let side = match side {
             0 => Side::Left,
             1 => Side::Right,
             _ => Side::Neither,
         };
-        Refusal { fault: Fault::of(answer[0]), side, line: answer[2] }
+        Refusal { fault: Fault::of(number), side, line }
     }
 }
 

@@ -1,4 +1,4 @@
-//! All steps from a state, read from the table that a verdict left.
+//! All steps from a state, read from the table that a comparison left.
 
 use crate::limits::{ACTION_BITS, SLOTS};
 use crate::table::Table;

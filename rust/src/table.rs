@@ -1,8 +1,9 @@
-//! Tables, comparisons on them, and what a verdict shows.
+//! Tables, the call of a comparison, and the roots that it leaves.
 
 use std::alloc::{alloc_zeroed, Layout};
 use std::fmt;
 
+use crate::comparison::Comparison;
 use crate::ffi;
 use crate::limits::MAX_BITS;
 use crate::model::Model;
@@ -11,24 +12,6 @@ use crate::steps::Steps;
 
 /// The most entries that a table may have.
 pub const MAX_TABLE: usize = 1 << 20;
-
-/// The kind of answer to a challenge.
-#[derive(Clone, Copy, Debug, PartialEq, Eq)]
-pub enum Mode {
-    /// One step with the same action.
-    Strong,
-    /// The same action with any internal steps around it, none at all for an internal step.
-    Weak,
-}
-
-impl Mode {
-    fn number(self) -> u64 {
-        match self {
-            Mode::Strong => 0,
-            Mode::Weak => 1,
-        }
-    }
-}
 
 /// Why there is no table.
 #[derive(Clone, Copy, Debug, PartialEq, Eq)]
@@ -79,47 +62,48 @@ impl Table {
         Ok(Table { level: zeros(entries)?, low: zeros(entries)?, high: zeros(entries)?, work: zeros(work)? })
     }
 
-    /// Compares the models of two texts, by the iterates up to the limit. The verdict borrows the table, which can't be used for
-    /// another comparison as long as something is looked up in this one:
+    /// Compares the models of two texts, strongly and weakly, each by its iterates up to the limit. The answer borrows the table, which
+    /// can't be used for another comparison as long as something is looked up in this one:
     ///
     /// ```compile_fail,E0499
-    /// # use seipolku::{Mode, Table};
+    /// # use seipolku::Table;
     /// let mut table = Table::new(4096).unwrap();
-    /// let first = table.compare(b"000101\n", b"000101\n", Mode::Weak, 9).unwrap();
-    /// let second = table.compare(b"000102\n", b"000102\n", Mode::Weak, 9).unwrap();
-    /// first.related(0, 0).unwrap();
+    /// let first = table.compare(b"000101\n", b"000101\n", 9).unwrap();
+    /// let second = table.compare(b"000102\n", b"000102\n", 9).unwrap();
+    /// first.weak.related(0, 0).unwrap();
     /// ```
     ///
     /// The same in an order that is possible:
     ///
     /// ```
-    /// # use seipolku::{Mode, Table};
+    /// # use seipolku::Table;
     /// let mut table = Table::new(4096).unwrap();
-    /// let first = table.compare(b"000101\n", b"000101\n", Mode::Weak, 9).unwrap();
-    /// first.related(0, 0).unwrap();
-    /// let second = table.compare(b"000102\n", b"000102\n", Mode::Weak, 9).unwrap();
-    /// second.related(0, 0).unwrap();
+    /// let first = table.compare(b"000101\n", b"000101\n", 9).unwrap();
+    /// first.weak.related(0, 0).unwrap();
+    /// let second = table.compare(b"000102\n", b"000102\n", 9).unwrap();
+    /// second.weak.related(0, 0).unwrap();
     /// ```
-    pub fn compare(
-        &mut self,
-        left: &[u8],
-        right: &[u8],
-        mode: Mode,
-        limit: u64,
-    ) -> Result<Verdict<'_>, Refusal> {
-        let mut answer = [0u64; 6];
-        let kind = self.call([left, right], mode, limit, &mut answer);
-        if kind == ffi::REFUSED {
-            return Err(Refusal::of(answer));
+    ///
+    /// A refusal is that of the whole comparison: of a text, or with [`Fault::Full`] where the nodes that both verdicts need together do not
+    /// fit, also where those of one of them would. A verdict that does not fall by the limit is
+    /// [`Verdict::Undecided`](crate::Verdict::Undecided), and all else is given:
+    ///
+    /// ```
+    /// # use seipolku::{Fault, Table, Verdict};
+    /// let (left, right) = (b"000102000201\n", b"000103000001010202\n");
+    /// let mut table = Table::new(4096).unwrap();
+    /// let compared = table.compare(left, right, 1).unwrap();
+    /// assert!(matches!(compared.strong, Verdict::Different { rounds: 1 }));
+    /// assert!(matches!(compared.weak, Verdict::Undecided));
+    /// assert_eq!(compared.right_steps(0, 0, 1), Ok(true));
+    /// assert_eq!(Table::new(386).unwrap().compare(left, right, 0).unwrap_err().fault, Fault::Full);
+    /// ```
+    pub fn compare(&mut self, left: &[u8], right: &[u8], limit: u64) -> Result<Comparison<'_>, Refusal> {
+        let mut answer = [0; ffi::ANSWER_WORDS];
+        match self.call([left, right], limit, &mut answer) {
+            ffi::REFUSED => Err(Refusal::of(answer[0], answer[1], answer[2])),
+            _ => Ok(Comparison::of(self, answer)),
         }
-        let root = |entry| Root { table: self, entry };
-        Ok(Verdict {
-            left: root(answer[0]),
-            right: root(answer[1]),
-            largest: (kind == 0).then_some(root(answer[2])),
-            rounds: answer[3],
-            nodes: answer[4],
-        })
     }
 
     /// Level and children of a node; nothing for a constant.
@@ -128,7 +112,7 @@ impl Table {
         Some((u32::from(*self.level.get(at)?), [*self.low.get(at)?, *self.high.get(at)?]))
     }
 
-    fn call(&mut self, [left, right]: [&[u8]; 2], mode: Mode, limit: u64, answer: &mut [u64; 6]) -> u64 {
+    fn call(&mut self, [left, right]: [&[u8]; 2], limit: u64, answer: &mut [u64; ffi::ANSWER_WORDS]) -> u64 {
         // SAFETY: each pointer comes with the length of the slice that it points to; the slices are apart, and the library
         // writes to those that are lent as mutable only.
         unsafe {
@@ -137,7 +121,6 @@ impl Table {
                 left.len(),
                 right.as_ptr(),
                 right.len(),
-                mode.number(),
                 limit,
                 self.level.as_mut_ptr(),
                 self.level.len(),
@@ -145,10 +128,6 @@ impl Table {
                 self.low.len(),
                 self.high.as_mut_ptr(),
                 self.high.len(),
-                std::ptr::null_mut(),
-                0,
-                std::ptr::null_mut(),
-                0,
                 self.work.as_mut_ptr(),
                 self.work.len(),
                 answer.as_mut_ptr(),
@@ -186,7 +165,7 @@ fn large_pages(start: usize, bytes: usize) {
     extern "C" {
         fn madvise(start: usize, bytes: usize, advice: i32) -> i32;
     }
-    let first = start.next_multiple_of(PAGE);
+    let first = (start + PAGE - 1) / PAGE * PAGE;
     let whole = (start + bytes).saturating_sub(first) / PAGE * PAGE;
     // SAFETY: the pages belong to one allocation, and this advice changes no content. That it is refused is no fault.
     let _ = unsafe { madvise(first, whole, MADV_HUGEPAGE) };
@@ -200,19 +179,19 @@ trait Number {}
 impl Number for u8 {}
 impl Number for u32 {}
 
-/// An entry of the table that a verdict left. It borrows that table, so it is looked up there and as long as the verdict stands:
+/// An entry of the table that a comparison left. It borrows that table, so it is looked up there and as long as the table stays as it is:
 ///
 /// ```compile_fail,E0499
-/// # use seipolku::{Mode, Table};
+/// # use seipolku::Table;
 /// let mut table = Table::new(4096).unwrap();
-/// let root = table.compare(b"000101\n", b"000101\n", Mode::Weak, 9).unwrap().left;
+/// let root = table.compare(b"000101\n", b"000101\n", 9).unwrap().left;
 /// std::mem::swap(&mut table, &mut Table::new(4096).unwrap());
 /// root.look_up(0, [0; 4]).unwrap();
 /// ```
 #[derive(Clone, Copy)]
 pub struct Root<'t> {
-    table: &'t Table,
-    entry: u64,
+    pub(crate) table: &'t Table,
+    pub(crate) entry: u64,
 }
 
 impl fmt::Debug for Root<'_> {
@@ -223,7 +202,7 @@ impl fmt::Debug for Root<'_> {
 
 impl<'t> Root<'t> {
     /// The value at an action and four state codes: left now and next, right now and next. Refused with 10 where the action is above
-    /// 63 or a code is not below [`CODES`].
+    /// 63 or a code is not below [`CODES`](crate::CODES).
     pub fn look_up(&self, action: u64, codes: [u64; 4]) -> Result<bool, Refusal> {
         let Table { level, low, high, .. } = self.table;
         // SAFETY: as in `Table::call`; nothing is written.
@@ -251,7 +230,7 @@ impl<'t> Root<'t> {
     }
 
     /// The steps from a code that a relation holds; the slot is the one of the model's now code.
-    fn steps(&self, slot: u32, now: u64, model: &Model) -> Result<Steps<'t>, Refusal> {
+    pub(crate) fn steps(&self, slot: u32, now: u64, model: &Model) -> Result<Steps<'t>, Refusal> {
         match (u32::try_from(model.bits), u32::try_from(self.entry)) {
             (Ok(bits), Ok(root)) if bits <= MAX_BITS && now < 1 << bits => {
                 Ok(Steps::new(self.table, root, slot, bits, now))
@@ -264,65 +243,4 @@ impl<'t> Root<'t> {
 /// The refusal of a look-up.
 fn refused(number: u64) -> Refusal {
     Refusal { fault: Fault::of(number), side: Side::Neither, line: 0 }
-}
-
-/// The slots of the now codes.
-const LEFT_NOW: u32 = 0;
-const RIGHT_NOW: u32 = 3;
-
-/// A verdict, with the roots of what its table shows.
-#[derive(Clone, Copy, Debug)]
-pub struct Verdict<'t> {
-    /// The relation of the left model: its derived steps, where the now code is a state's.
-    pub left: Root<'t>,
-    /// The relation of the right model.
-    pub right: Root<'t>,
-    /// The largest bisimulation, where the models are equal.
-    pub largest: Option<Root<'t>>,
-    pub rounds: u64,
-    pub nodes: u64,
-}
-
-impl<'t> Verdict<'t> {
-    pub fn equal(&self) -> bool {
-        self.largest.is_some()
-    }
-
-    /// Whether the left model has the step with this action from the state `now` to the state `next`: where the now code is a state's,
-    /// as the operators' rules derive it.
-    pub fn left_steps(&self, action: u64, now: u64, next: u64) -> Result<bool, Refusal> {
-        self.left.look_up(action, [now, next, 0, 0])
-    }
-
-    /// The same of the right model.
-    pub fn right_steps(&self, action: u64, now: u64, next: u64) -> Result<bool, Refusal> {
-        self.right.look_up(action, [0, 0, now, next])
-    }
-
-    /// All steps of the left model, which is the one given, from the state `now`, in no order. A code that is no state's, since a leaf
-    /// has fewer states than its bits could tell apart, may have more than the operators' rules derive. Refused with 10 where `now` has
-    /// more bits than the model.
-    ///
-    /// ```
-    /// # use seipolku::{model, Mode, Table};
-    /// let text = b"000102000201\n";
-    /// let mut table = Table::new(4096).unwrap();
-    /// let verdict = table.compare(text, text, Mode::Strong, 9).unwrap();
-    /// let steps: Vec<(u64, u64)> = verdict.left_steps_from(0, &model(text).unwrap()).unwrap().collect();
-    /// assert_eq!(steps, [(2, 1)]);
-    /// ```
-    pub fn left_steps_from(&self, now: u64, model: &Model) -> Result<Steps<'t>, Refusal> {
-        self.left.steps(LEFT_NOW, now, model)
-    }
-
-    /// The same of the right model.
-    pub fn right_steps_from(&self, now: u64, model: &Model) -> Result<Steps<'t>, Refusal> {
-        self.right.steps(RIGHT_NOW, now, model)
-    }
-
-    /// Whether the largest bisimulation holds the pair of states; nothing where the models are different, since the table then shows
-    /// no bisimulation.
-    pub fn related(&self, left: u64, right: u64) -> Result<Option<bool>, Refusal> {
-        self.largest.map(|root| root.look_up(0, [left, 0, right, 0])).transpose()
-    }
 }

@@ -1,13 +1,11 @@
 //! What the model of a text is: stored texts, and the leaves' places against look-ups.
 
-use seipolku::frames::{Frame, Lines};
-use seipolku::{model, LeafUse, Mode, Model, Side, Table, MAX_BITS};
-use std::fs;
-use std::path::PathBuf;
+mod common;
 
-fn repository(file: &str) -> PathBuf {
-    PathBuf::from(env!("CARGO_MANIFEST_DIR")).join("..").join(file)
-}
+use common::{repository, Vector, LIMIT};
+use seipolku::frames::{Frame, Lines};
+use seipolku::{model, LeafUse, Model, Side, Table, MAX_BITS};
+use std::fs;
 
 fn leaf(line: usize, shift: u32, width: u32, states: u64) -> LeafUse {
     LeafUse { line, shift, width, states }
@@ -37,26 +35,21 @@ fn unused_lines() {
     assert_eq!(found, Model { bits: 3, lines: 3, uses: 1, states: 5, leaves: vec![leaf(1, 0, 3, 5)] });
 }
 
-/// The texts and the answer of each stored vector.
-fn vectors() -> Vec<([Vec<u8>; 2], Vec<String>)> {
-    let files = ["tests/vectors.tsv", "models/vectors.tsv"];
-    let all = files.map(|file| fs::read_to_string(repository(file)).unwrap()).concat();
-    let vector = |line: &str| {
-        let fields: Vec<&str> = line.split('\t').collect();
-        ([text(fields[1]), text(fields[2])], fields[6].split(' ').map(str::to_string).collect())
-    };
-    all.lines().filter(|line| !line.is_empty() && !line.starts_with('#')).map(vector).collect()
+/// All stored vectors.
+fn vectors() -> Vec<Vector> {
+    ["tests/vectors.tsv", "models/vectors.tsv"].into_iter().flat_map(common::vectors).collect()
 }
 
 /// Numbers and lines of the refusals that stand in the vectors; their other texts are accepted.
 #[test]
 fn stored_texts() {
     let (mut refused, mut accepted) = (0, 0);
-    for (texts, answer) in vectors() {
-        let number = |place: usize| answer[place].parse::<u64>().unwrap();
-        match (answer[0].as_str(), number(1)) {
-            ("refused", 7) => continue,
-            ("refused", 1..=6) => {
+    for Vector { texts, answer, .. } in vectors() {
+        let words: Vec<&str> = answer.split(' ').collect();
+        let number = |place: usize| words[place].parse::<u64>().unwrap();
+        match (words[0], words[1]) {
+            ("refused", "7") => continue,
+            ("refused", "1" | "2" | "3" | "4" | "5" | "6") => {
                 let refusal = model(&texts[number(2) as usize]).unwrap_err();
                 let found = (refusal.fault.number(), refusal.side, refusal.line);
                 assert_eq!(found, (number(1), Side::Left, number(3)));
@@ -76,10 +69,10 @@ fn stored_texts() {
 fn changed_texts() {
     let mut table = Table::new(2).unwrap();
     let mut accepted = 0;
-    for (place, ([mut text, _], _)) in vectors().into_iter().enumerate() {
+    for (place, Vector { texts: [mut text, _], .. }) in vectors().into_iter().enumerate() {
         for at in (place % 5..text.len()).step_by(5) {
             let before = std::mem::replace(&mut text[at], b"01F\na"[(place + at) % 5]);
-            let beside = table.compare(&text, b"", Mode::Strong, 0).unwrap_err();
+            let beside = table.compare(&text, b"", 0).unwrap_err();
             let alone = model(&text);
             assert_eq!(alone.as_ref().err(), Some(&beside).filter(|r| r.side == Side::Left));
             accepted += u64::from(alone.is_ok());
@@ -87,24 +80,6 @@ fn changed_texts() {
         }
     }
     assert!(accepted > 100, "{accepted}");
-}
-
-/// `/` stands for byte 0A and `\xHH` for byte HH.
-fn text(field: &str) -> Vec<u8> {
-    let mut bytes = Vec::new();
-    let mut rest = field.as_bytes();
-    while let Some((first, tail)) = rest.split_first() {
-        rest = tail;
-        match first {
-            b'/' => bytes.push(b'\n'),
-            b'\\' => {
-                bytes.push(u8::from_str_radix(std::str::from_utf8(&rest[1..3]).unwrap(), 16).unwrap());
-                rest = &rest[3..];
-            }
-            other => bytes.push(*other),
-        }
-    }
-    bytes
 }
 
 /// Leaves of 3, 1 and 5 states that never meet, put together so that their order in the code is not that of the lines.
@@ -122,15 +97,15 @@ fn places() {
 fn places_by_look_ups() {
     let found = model(MIXED).unwrap();
     let lines = Lines::decode(MIXED).unwrap();
-    let mut table = Table::new(4096).unwrap();
-    let verdict = table.compare(MIXED, b"000101\n", Mode::Strong, 1_000_000).unwrap();
+    let mut table = Table::new(1 << 16).unwrap();
+    let compared = table.compare(MIXED, b"000101\n", LIMIT).unwrap();
     let mut steps = 0;
     for now in (0..1 << found.bits).filter(|code| found.leaves.iter().all(|l| l.state(*code) < l.states)) {
         let expected = moved(&found, &lines, now);
-        assert_eq!(sorted(verdict.left_steps_from(now, &found).unwrap()), expected, "{now}");
+        assert_eq!(sorted(compared.left_steps_from(now, &found).unwrap()), expected, "{now}");
         for action in 0..64 {
             for next in 0..1 << found.bits {
-                let holds = verdict.left_steps(action, now, next).unwrap();
+                let holds = compared.left_steps(action, now, next).unwrap();
                 assert_eq!(holds, expected.contains(&(action, next)), "{now} {action} {next}");
                 steps += u64::from(holds);
             }
@@ -149,8 +124,8 @@ fn places_in_the_highest_bits() {
     let lines = Lines::decode(&text).unwrap();
     let mut tables = [1 << 16; 2].map(|entries| Table::new(entries).unwrap());
     let [one, other] = &mut tables;
-    let left = one.compare(&text, b"000101\n", Mode::Strong, 1_000_000).unwrap();
-    let right = other.compare(b"000101\n", &text, Mode::Strong, 1_000_000).unwrap();
+    let left = one.compare(&text, b"000101\n", LIMIT).unwrap();
+    let right = other.compare(b"000101\n", &text, LIMIT).unwrap();
     for state in (0..1 << low.bits).filter(|code| low.leaves.iter().all(|l| l.state(*code) < l.states)) {
         let now = (state << (found.bits - low.bits)) + 0x1_2345;
         let expected = moved(&found, &lines, now);

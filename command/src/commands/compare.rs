@@ -1,4 +1,4 @@
-//! `compare`: verdicts of two models.
+//! `compare`: the strong and the weak verdict of two models, from one call.
 
 use crate::arguments::{Form, Given};
 use crate::channels::{self, Basis};
@@ -7,9 +7,10 @@ use crate::json;
 use crate::load;
 use crate::outcome::{counted, fail, Answer, Failure, Outcome, DIFFERENT, EQUAL, REFUSED};
 use crate::progress;
-use crate::proved::{self, Verdict, ENTRIES, LIMIT};
-use crate::refusals::{self, Call};
-use seipolku::{Mode, Refusal};
+use crate::proved::{self, ENTRIES, LIMIT};
+use crate::refusals::{self, Call, UNDECIDED};
+use crate::words::word;
+use seipolku::{Comparison, Mode, Refusal, Side, Verdict};
 use std::path::Path;
 use std::time::Duration;
 
@@ -19,10 +20,20 @@ pub const FORM: Form = Form {
     flags: &["--by-number", "--quiet", "--json"],
 };
 
-struct Compared {
-    mode: Mode,
-    answer: Result<Verdict, Refusal>,
+/// A comparison as it was called and answered.
+struct Compared<'a> {
+    call: Call<'a>,
+    basis: Option<Basis>,
+    answer: Result<Comparison<'a>, Refused>,
     time: Duration,
+    /// The verdicts that are shown and decide the exit status.
+    modes: Vec<Mode>,
+}
+
+/// A refusal of the whole comparison, with its explanation.
+struct Refused {
+    refusal: Refusal,
+    words: String,
 }
 
 pub fn run(given: &Given) -> Answer {
@@ -33,27 +44,27 @@ pub fn run(given: &Given) -> Answer {
     let (left, right) = (files::read(files[0])?, files::read(files[1])?);
     let basis = basis(files, [&left, &right], given.flag("--by-number"))?;
     let mut table = proved::table(entries)?;
-    let mut all = Vec::new();
-    for mode in modes {
-        let call = || table.get()?.compare(&left, &right, mode, limit).map(Verdict::of);
-        let (answer, time) = progress::timed(word(mode), !given.flag("--quiet"), call);
-        all.push(Compared { mode, answer, time });
-    }
+    let quiet = given.flag("--quiet");
+    let (answer, time) = progress::timed("comparing", !quiet, || table.get()?.compare(&left, &right, limit));
     let call = Call { files, texts: [&left, &right], entries, limit };
-    let status = all.iter().map(|c| status(&c.answer)).max().unwrap_or(EQUAL);
-    let text = match (given.flag("--json"), given.flag("--quiet")) {
-        (true, _) => json(&all, &call, basis.as_ref(), status),
+    let answer = match answer {
+        Ok(both) => Ok(both),
+        Err(refusal) => Err(Refused { refusal, words: refusals::of_comparison(&refusal, &call, &mut table) }),
+    };
+    let compared = Compared { call, basis, answer, time, modes };
+    let text = match (given.flag("--json"), quiet) {
+        (true, _) => compared.json(),
         (false, true) => String::new(),
-        (false, false) => words(&all, &call, basis.as_ref()),
+        (false, false) => compared.words(),
     };
     let mut notes = Vec::new();
-    if given.flag("--quiet") || !given.flag("--json") {
-        notes = basis.map(|b| b.notes).unwrap_or_default();
+    if quiet || !given.flag("--json") {
+        notes.extend_from_slice(compared.notes());
     }
-    if given.flag("--quiet") {
-        notes.extend(explanations(&all, &call));
+    if quiet {
+        notes.extend(compared.explanation());
     }
-    Ok(Outcome { text, notes, status })
+    Ok(Outcome { text, notes, status: compared.status() })
 }
 
 /// What channels are taken by; nothing where the library refuses a text, so that there is no comparison.
@@ -65,14 +76,7 @@ fn basis(files: [&Path; 2], texts: [&[u8]; 2], by_number: bool) -> Result<Option
     Ok(Some(channels::basis(&models, by_number)?))
 }
 
-pub fn word(mode: Mode) -> &'static str {
-    match mode {
-        Mode::Strong => "strong",
-        Mode::Weak => "weak",
-    }
-}
-
-/// The modes that --mode names; `both` only where that is the default.
+/// The verdicts that --mode names; `both` only where that is the default.
 pub fn modes(given: &Given, default: &[Mode]) -> Result<Vec<Mode>, Failure> {
     let Some(value) = given.value("--mode") else { return Ok(default.to_vec()) };
     match value.to_str() {
@@ -86,82 +90,125 @@ pub fn modes(given: &Given, default: &[Mode]) -> Result<Vec<Mode>, Failure> {
     }
 }
 
-pub fn status(answer: &Result<Verdict, Refusal>) -> u8 {
-    match answer {
-        Ok(verdict) if verdict.equal() => EQUAL,
-        Ok(_) => DIFFERENT,
-        Err(_) => REFUSED,
+fn status(verdict: Verdict<'_>) -> u8 {
+    match verdict {
+        Verdict::Equal { .. } => EQUAL,
+        Verdict::Different { .. } => DIFFERENT,
+        Verdict::Undecided => REFUSED,
     }
 }
 
-fn verdict_word(answer: &Result<Verdict, Refusal>) -> &'static str {
-    ["equal", "different", "refused"][usize::from(status(answer)).min(2)]
+fn verdict_word(verdict: Verdict<'_>) -> &'static str {
+    match verdict {
+        Verdict::Equal { .. } => "equal",
+        Verdict::Different { .. } => "different",
+        Verdict::Undecided => "refused",
+    }
 }
 
-fn words(all: &[Compared], call: &Call, basis: Option<&Basis>) -> String {
-    let by = basis.map_or("", Basis::words);
-    let mut text = String::new();
-    for Compared { mode, answer, time } in all {
-        let seconds = time.as_secs_f64();
-        let detail = match answer {
-            Ok(verdict) => {
-                format!("{}, {}{by}", counted(verdict.rounds, "round"), counted(verdict.nodes, "node"))
+fn line(name: &str, verdict: &str, detail: &str) -> String {
+    format!("{name:<6}  {verdict:<9}  {detail}\n")
+}
+
+impl Compared<'_> {
+    /// The worst of the verdicts that are shown.
+    fn status(&self) -> u8 {
+        match &self.answer {
+            Ok(both) => self.modes.iter().map(|mode| status(both.verdict(*mode))).max().unwrap_or(EQUAL),
+            Err(_) => REFUSED,
+        }
+    }
+
+    fn notes(&self) -> &[String] {
+        self.basis.as_ref().map_or(&[], |basis| &basis.notes)
+    }
+
+    /// A line for each verdict that is shown, then one for what both needed; or one for the refusal of both.
+    fn words(&self) -> String {
+        let seconds = self.time.as_secs_f64();
+        let mut text = match &self.answer {
+            Err(Refused { refusal, .. }) => {
+                line("both", "refused", &format!("{}, {seconds:.3} s", refusals::short(refusal)))
             }
-            Err(refusal) => refusals::short(refusal),
+            Ok(both) => {
+                let lines: String =
+                    self.modes.iter().map(|mode| self.verdict_line(*mode, both.verdict(*mode))).collect();
+                format!("{lines}{:<6}  {}, {seconds:.3} s\n", "both", counted(both.nodes, "node"))
+            }
         };
-        text += &format!("{:<6}  {:<9}  {detail}, {seconds:.3} s\n", word(*mode), verdict_word(answer));
+        if let Some(explanation) = self.explanation() {
+            text += &format!("\n{explanation}");
+        }
+        text
     }
-    for explanation in explanations(all, call) {
-        text += &format!("\n{explanation}");
-    }
-    text
-}
 
-/// The refusals in words, each once.
-fn explanations(all: &[Compared], call: &Call) -> Vec<String> {
-    let mut explained: Vec<String> = Vec::new();
-    for refusal in all.iter().filter_map(|c| c.answer.as_ref().err()) {
-        let explanation = refusals::of_comparison(refusal, call);
-        if !explained.contains(&explanation) {
-            explained.push(explanation);
+    fn verdict_line(&self, mode: Mode, verdict: Verdict<'_>) -> String {
+        let by = self.basis.as_ref().map_or("", Basis::words);
+        let detail = match verdict.rounds() {
+            Some(rounds) => format!("{}{by}", counted(rounds, "round")),
+            None => format!("{UNDECIDED}, the limit is reached"),
+        };
+        line(word(mode), verdict_word(verdict), &detail)
+    }
+
+    /// The refusal in words, or what 9 means for the verdicts that it stands for.
+    fn explanation(&self) -> Option<String> {
+        match &self.answer {
+            Err(refused) => Some(refused.words.clone()),
+            Ok(both) => {
+                let undecided = |mode: &&Mode| both.verdict(**mode).rounds().is_none();
+                let modes: Vec<Mode> = self.modes.iter().filter(undecided).copied().collect();
+                (!modes.is_empty()).then(|| refusals::of_limit(&modes, both, self.call.limit))
+            }
         }
     }
-    explained
-}
 
-fn json(all: &[Compared], call: &Call, basis: Option<&Basis>, status: u8) -> String {
-    let file = |path: &Path| json::string(&path.to_string_lossy());
-    let answers: Vec<String> = all.iter().map(|compared| json_answer(compared, call)).collect();
-    let notes: Vec<String> = basis.iter().flat_map(|b| &b.notes).map(|n| json::string(n)).collect();
-    let whole = json::object(&[
-        ("left", file(call.files[0])),
-        ("right", file(call.files[1])),
-        ("entries", call.entries.to_string()),
-        ("limit", call.limit.to_string()),
-        ("channels", basis.map_or("null".to_string(), |b| json::string(b.json()))),
-        ("answers", json::array(&answers)),
-        ("notes", json::array(&notes)),
-        ("status", status.to_string()),
-    ]);
-    whole + "\n"
-}
-
-fn json_answer(compared: &Compared, call: &Call) -> String {
-    let mut members = vec![
-        ("mode", json::string(word(compared.mode))),
-        ("verdict", json::string(verdict_word(&compared.answer))),
-        ("seconds", format!("{:.6}", compared.time.as_secs_f64())),
-    ];
-    match &compared.answer {
-        Ok(verdict) => {
-            members.extend([("rounds", verdict.rounds.to_string()), ("nodes", verdict.nodes.to_string())])
-        }
-        Err(refusal) => members.extend([
-            ("number", refusal.fault.number().to_string()),
-            ("side", json::string(refusals::side(refusal))),
-            ("line", refusal.line.to_string()),
-            ("words", json::string(&refusals::of_comparison(refusal, call))),
-        ]),
+    fn json(&self) -> String {
+        let file = |path: &Path| json::string(&path.to_string_lossy());
+        let null = || "null".to_string();
+        let answers: Vec<String> = self.modes.iter().map(|mode| self.json_answer(*mode)).collect();
+        let notes: Vec<String> = self.notes().iter().map(|note| json::string(note)).collect();
+        let whole = json::object(&[
+            ("left", file(self.call.files[0])),
+            ("right", file(self.call.files[1])),
+            ("entries", self.call.entries.to_string()),
+            ("limit", self.call.limit.to_string()),
+            ("channels", self.basis.as_ref().map_or_else(null, |basis| json::string(basis.json()))),
+            ("answers", json::array(&answers)),
+            ("nodes", self.answer.as_ref().map_or_else(|_| null(), |both| both.nodes.to_string())),
+            ("seconds", format!("{:.6}", self.time.as_secs_f64())),
+            ("notes", json::array(&notes)),
+            ("status", self.status().to_string()),
+        ]);
+        whole + "\n"
     }
-    json::object(&members)
+
+    fn json_answer(&self, mode: Mode) -> String {
+        let refused = |number: u64, side: Side, line: u64, words: &str| {
+            let line = if side == Side::Neither { "null".to_string() } else { line.to_string() };
+            vec![
+                ("verdict", json::string("refused")),
+                ("number", number.to_string()),
+                ("side", json::string(refusals::side(side))),
+                ("line", line),
+                ("words", json::string(words)),
+            ]
+        };
+        let found = match &self.answer {
+            Err(Refused { refusal, words }) => {
+                refused(refusal.fault.number(), refusal.side, refusal.line, words)
+            }
+            Ok(both) => match both.verdict(mode).rounds() {
+                Some(rounds) => vec![
+                    ("verdict", json::string(verdict_word(both.verdict(mode)))),
+                    ("rounds", rounds.to_string()),
+                ],
+                None => {
+                    let words = refusals::of_limit(&[mode], both, self.call.limit);
+                    refused(UNDECIDED, Side::Neither, 0, &words)
+                }
+            },
+        };
+        json::object(&[vec![("mode", json::string(word(mode)))], found].concat())
+    }
 }

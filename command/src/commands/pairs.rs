@@ -2,7 +2,7 @@
 
 use crate::arguments::{Form, Given};
 use crate::channels;
-use crate::commands::compare::{modes, word};
+use crate::commands::compare::modes;
 use crate::load::{load_both, Loaded};
 use crate::outcome::{
     capital, counted, fail, grouped, Answer, Failure, Outcome, Stopped, DIFFERENT, EQUAL, REFUSED,
@@ -12,7 +12,8 @@ use crate::proved::{self, ENTRIES, LIMIT};
 use crate::reach::{self, MOST_LINES};
 use crate::refusals::{self, Call};
 use crate::space::Space;
-use seipolku::{Mode, Root};
+use crate::words::word;
+use seipolku::{Mode, Root, Verdict};
 
 pub const FORM: Form = Form {
     command: "pairs",
@@ -91,14 +92,17 @@ pub fn run(given: &Given) -> Answer {
     let basis = channels::basis(&models, given.flag("--by-number"))?;
     let mut table = proved::table(entries)?;
     let texts = [&models[0].text[..], &models[1].text[..]];
-    let (answer, _) =
-        progress::timed(word(mode), true, || table.get()?.compare(texts[0], texts[1], mode, limit));
-    let (text, status) = match answer {
-        Err(refusal) => (refusals::of_comparison(&refusal, &Call { files, texts, entries, limit }), REFUSED),
-        Ok(verdict) => match verdict.largest {
-            Some(root) => (equal(root, &models, &asked, mode, basis.words())?, EQUAL),
-            None => (different(mode, verdict.rounds, basis.words()), DIFFERENT),
-        },
+    let (answer, _) = progress::timed("comparing", true, || table.get()?.compare(texts[0], texts[1], limit));
+    let (text, status) = match answer.map(|both| (both.verdict(mode), both)) {
+        Err(refusal) => {
+            let call = Call { files, texts, entries, limit };
+            (refusals::of_comparison(&refusal, &call, &mut table), REFUSED)
+        }
+        Ok((Verdict::Equal { largest, .. }, _)) => {
+            (equal(largest, &models, &asked, mode, basis.words())?, EQUAL)
+        }
+        Ok((Verdict::Different { rounds }, _)) => (different(mode, rounds, basis.words()), DIFFERENT),
+        Ok((Verdict::Undecided, both)) => (refusals::of_limit(&[mode], &both, limit), REFUSED),
     };
     Ok(Outcome { text, notes: basis.notes, status })
 }

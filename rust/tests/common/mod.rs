@@ -1,0 +1,85 @@
+//! What the tests share: the stored vectors, and an answer in their words.
+#![allow(dead_code)]
+
+use seipolku::{Comparison, Refusal, Side, Table, Verdict};
+use std::fs;
+use std::path::PathBuf;
+
+pub const LIMIT: u64 = 1_000_000;
+
+pub fn repository(file: &str) -> PathBuf {
+    PathBuf::from(env!("CARGO_MANIFEST_DIR")).join("..").join(file)
+}
+
+/// A stored comparison.
+pub struct Vector {
+    pub name: String,
+    pub texts: [Vec<u8>; 2],
+    pub limit: u64,
+    pub entries: usize,
+    pub answer: String,
+}
+
+/// The vectors of a file: name, left text, right text, limit, table's length, answer.
+pub fn vectors(file: &str) -> Vec<Vector> {
+    let all = fs::read_to_string(repository(file)).unwrap();
+    let vector = |line: &str| {
+        let [name, left, right, limit, entries, answer] = line.split('\t').collect::<Vec<_>>()[..] else {
+            panic!("{line}");
+        };
+        let (limit, entries) = (limit.parse().unwrap(), entries.parse().unwrap());
+        let (name, answer) = (name.to_string(), answer.to_string());
+        Vector { name, texts: [text(left), text(right)], limit, entries, answer }
+    };
+    all.lines().filter(|line| !line.is_empty() && !line.starts_with('#')).map(vector).collect()
+}
+
+/// `/` stands for byte 0A and `\xHH` for byte HH.
+pub fn text(field: &str) -> Vec<u8> {
+    let mut bytes = Vec::new();
+    let mut rest = field.as_bytes();
+    while let Some((first, tail)) = rest.split_first() {
+        rest = tail;
+        match first {
+            b'/' => bytes.push(b'\n'),
+            b'\\' => {
+                bytes.push(u8::from_str_radix(std::str::from_utf8(&rest[1..3]).unwrap(), 16).unwrap());
+                rest = &rest[3..];
+            }
+            other => bytes.push(*other),
+        }
+    }
+    bytes
+}
+
+/// The answer of a comparison on a table of its own, in the words of a vector.
+pub fn answer(texts: [&[u8]; 2], limit: u64, entries: usize) -> String {
+    let mut table = Table::new(entries).unwrap();
+    let compared = table.compare(texts[0], texts[1], limit);
+    match compared {
+        Ok(compared) => shown(&compared),
+        Err(refusal) => refused(&refusal),
+    }
+}
+
+pub fn shown(compared: &Comparison<'_>) -> String {
+    let Comparison { strong, weak, nodes, .. } = compared;
+    format!("strong {} | weak {} | {nodes}", verdict(strong), verdict(weak))
+}
+
+fn verdict(verdict: &Verdict<'_>) -> String {
+    match verdict {
+        Verdict::Equal { rounds, .. } => format!("equal {rounds}"),
+        Verdict::Different { rounds } => format!("different {rounds}"),
+        Verdict::Undecided => "refused 9 2 0".to_string(),
+    }
+}
+
+fn refused(refusal: &Refusal) -> String {
+    let side = match refusal.side {
+        Side::Left => 0,
+        Side::Right => 1,
+        Side::Neither => 2,
+    };
+    format!("refused {} {side} {}", refusal.fault.number(), refusal.line)
+}
