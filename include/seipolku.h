@@ -33,7 +33,7 @@ enum {
     SEIPOLKU_LEFT_ROOT = 0,      /* the relation of the left model */
     SEIPOLKU_RIGHT_ROOT = 1,     /* that of the right model */
     SEIPOLKU_STRONG_VERDICT = 2, /* SEIPOLKU_VERDICT_EQUAL, .._DIFFERENT or .._NONE */
-    SEIPOLKU_STRONG_ROUNDS = 3,  /* 0 if there is none */
+    SEIPOLKU_STRONG_ROUNDS = 3,  /* 0 if there is no verdict */
     SEIPOLKU_STRONG_ROOT = 4,    /* the largest strong bisimulation if equal, else 0 */
     SEIPOLKU_WEAK_VERDICT = 5,   /* the same of the weak verdict */
     SEIPOLKU_WEAK_ROUNDS = 6,

@@ -11,7 +11,7 @@ use crate::table::{Root, Table};
 pub enum Mode {
     /// One step with the same action.
     Strong,
-    /// The same action with any internal steps around it, none at all for an internal step.
+    /// The same action with any internal steps before and after it; to an internal step, zero or more internal steps.
     Weak,
 }
 
