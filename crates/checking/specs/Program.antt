@@ -1,15 +1,13 @@
 -- What the program prints of two texts. Assumes nothing.
 use mathlib.Core.Path.{_≡_}
 use mathlib.Core.List.{List}
-use Prim.Native.Nat.{ℕ}
+use Prim.Native.Nat.{ℕ, zero, suc}
 use lib.ListN.{length}
 use Rattle.nodes.specs.Lookup.{Slices}
 use Rattle.verdicts.specs.Bisimulation.{Mode, strong, weak, by-mode}
-use Rattle.verdicts.specs.Contract.{Compared}
+use Rattle.verdicts.specs.Contract.{Verdict-values, verdict-values, Compared}
 use Rattle.verdicts.specs.declared.Answer.{Answer}
 use Rattle.verdicts.specs.declared.Answer.the-variants as answer
-use Rattle.verdicts.specs.declared.Verdict.{Verdict}
-use Rattle.verdicts.specs.declared.Verdict.the-variants as verdict
 use Rattle.checking.specs.declared.Line.{Line}
 use Rattle.checking.specs.declared.Line.the-variants.{Equal, Different, Refused}
 use Rattle.checking.specs.declared.Lines.{Lines}
@@ -21,15 +19,18 @@ tableLength = 4096
 abbrev pub roundLimit : ℕ
 roundLimit = 1000000
 
--- a verdict with its rounds and the comparison's nodes; 9 where none falls by the limit
-abbrev pub verdict-line : Verdict → ℕ → Line
-verdict-line (verdict.Equal b rounds) nodes = Equal rounds nodes
-verdict-line (verdict.Different rounds) nodes = Different rounds nodes
-verdict-line verdict.Spent nodes = Refused 9 2 0
+-- by a verdict's number: 0 "equal" and 1 "different", with rounds and the comparison's nodes; else the refusal of that number, which is 9
+abbrev pub numbered-line : (number rounds nodes : ℕ) → Line
+numbered-line zero rounds nodes = Equal rounds nodes
+numbered-line (suc zero) rounds nodes = Different rounds nodes
+numbered-line (suc (suc n)) rounds nodes = Refused (suc (suc n)) 2 0
+
+abbrev pub verdict-line : Verdict-values → ℕ → Line
+verdict-line v nodes = numbered-line (v .number) (v .rounds) nodes
 
 -- the line of a mode; a refusal of the comparison stands on both
 abbrev pub line-in : Mode → Answer → Line
-line-in m (answer.Answered l r s w nodes) = verdict-line (by-mode s w m) nodes
+line-in m (answer.Answered l r s w nodes) = verdict-line (verdict-values (by-mode s w m)) nodes
 line-in m (answer.Refused number side line) = Refused number side line
 
 -- the lines are those of a comparison of two texts by a limit, with a table of that length; the program's limit is `roundLimit`

@@ -3,6 +3,7 @@ ghost use mathlib.Core.Path.{_≡_};
 ghost use Prim.Native.Nat.{_≤_};
 ghost use lib.ListN.{length};
 ghost use Rattle.verdicts.specs.Bisimulation.{strong, weak};
+ghost use Rattle.verdicts.specs.Contract.{verdict-values};
 ghost use Rattle.checking.specs.Program.{roundLimit, verdict-line, line-in, Printed};
 use libc::STDOUT_FILENO;
 use verdicts::Answer;
@@ -84,7 +85,7 @@ fn read_file(path: &[u8], buf: &mut [u8]) -> usize
 
 // What a verdict's line says, with the nodes of its comparison.
 fn line_of(verdict: Verdict, nodes: u32) -> Line
-    ensures { λ r. ⌜ r ≡ verdict-line verdict nodes ⌝ }
+    ensures { λ r. ⌜ r ≡ verdict-line (verdict-values verdict) nodes ⌝ }
 {
     match verdict {
         Verdict::Equal { iterate: _, rounds } => Line::Equal { rounds, nodes },
@@ -184,12 +185,12 @@ fn print_lines(lines: Lines) {
     print_line(weak);
 }
 
-fn compare_both(left: &[u8], right: &[u8]) {
+fn print_texts(left: &[u8], right: &[u8]) {
     print_lines(compare_texts(left, right));
 }
 
-// Prints what the program would print of two texts with another limit; with its own no verdict is missing, as so many iterates need more nodes
-// than its table has.
+// Prints what the program would print of two texts with another limit. With the program's no line has a 9: so many different iterates need more
+// nodes than its table has.
 pub fn print_within(left: &[u8], right: &[u8], limit: u64) {
     print_lines(compare_within(left, right, limit));
 }
@@ -208,5 +209,5 @@ pub fn run() {
         say(b"no input right\n");
         return;
     }
-    compare_both(&left[..n], &right[..m]);
+    print_texts(&left[..n], &right[..m]);
 }

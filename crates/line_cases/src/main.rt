@@ -1,4 +1,4 @@
-// For stored pairs, prints the lines of the program with limits of its own, so that 9 stands on one line or on both. The stored output was made
+// For stored pairs, prints the lines of the program with other limits than the program's, so that 9 stands on one line or on both. The stored output was made
 // by the independent program.
 use libc::STDOUT_FILENO;
 

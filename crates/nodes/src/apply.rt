@@ -1,7 +1,7 @@
 // ∧, ∨, ¬ and fixing a level by one recursion over the entries of the operands.
 ghost use mathlib.Core.Path.{_≡_};
 ghost use mathlib.Core.Bool.{cond};
-ghost use Prim.Native.Nat.{_-_, _≤_, _<_, min, max};
+ghost use Prim.Native.Nat.{_≤_, _<_, min, max};
 ghost use lib.ListN.{length, getD};
 ghost use Rattle.nodes.specs.Fun.{both, either, negated};
 ghost use Rattle.nodes.specs.internal.Packed.{levels, lows};

@@ -1,6 +1,6 @@
 // Renaming a level, and several levels one after the other.
 ghost use mathlib.Core.Path.{_≡_};
-ghost use Prim.Native.Nat.{_-_, _≤_};
+ghost use Prim.Native.Nat.{_≤_};
 ghost use Rattle.nodes.specs.Table.{lastLevel};
 ghost use Rattle.nodes.specs.Formula.{renamed, bit, fix-below};
 ghost use Rattle.nodes.specs.internal.Several.{some-from, renamed-from};

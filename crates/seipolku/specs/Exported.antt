@@ -35,15 +35,15 @@ abbrev pub refusal-words : List ℕ → Values → List ℕ
 refusal-words words v = six words 0 (v .number) (v .side) (v .line) 0 0 0
 
 -- the words of an answer or refusal, by the documents' number and values; those past the twelfth stay
-abbrev pub answered : List ℕ → Answer → List ℕ
-answered words (Answered l r s w nodes) = answer-words words (valuesOf (Answered l r s w nodes))
-answered words (Refused number side line) = six (refusal-words words (valuesOf (Refused number side line))) 6 0 0 0 0 0 0
+abbrev pub written : List ℕ → Answer → List ℕ
+written words (Answered l r s w nodes) = answer-words words (valuesOf (Answered l r s w nodes))
+written words (Refused number side line) = six (refusal-words words (valuesOf (Refused number side line))) 6 0 0 0 0 0 0
 
 -- The contract of the exported comparison. With fewer than twelve words for the answer it returns 3 and touches nothing. The work slice is free
 -- afterwards.
 pub record Exported (l r : List ℕ) (limit : ℕ) (before after : Slices) (work work′ : List ℕ) (words words′ : List ℕ) (returned : ℕ) : Type 0 where
   pub short : length words < 12 → (returned ≡ 3) × (after ≡ before) × (work′ ≡ work) × (words′ ≡ words)
-  pub long : 12 ≤ length words → (a : Answer) × Compared l r limit before after a × (returned ≡ kindOf a) × (words′ ≡ answered words a)
+  pub long : 12 ≤ length words → (a : Answer) × Compared l r limit before after a × (returned ≡ kindOf a) × (words′ ≡ written words a)
 
 -- a look-up's value, or the number of its refusal where it has none
 abbrev pub first-of : List ℕ → ℕ → ℕ

@@ -6,7 +6,7 @@ ghost use Prim.Native.Nat.{_+_, _≤_};
 ghost use lib.ListN.{length};
 ghost use Rattle.nodes.specs.Lookup.{slices, look-up};
 ghost use Rattle.verdicts.specs.Contract.{verdict-values};
-ghost use Rattle.seipolku.specs.Exported.{six, answered, kindOf, Exported, numbered};
+ghost use Rattle.seipolku.specs.Exported.{six, written, kindOf, Exported, numbered};
 use nodes::lookup::Looked;
 use nodes::lookup::look_up;
 use verdicts::Answer;
@@ -17,7 +17,7 @@ use verdicts::compare::compare;
 const WORDS: usize = 12;
 
 // The three words of a verdict.
-struct Said {
+struct VerdictWords {
     number: u64,
     rounds: u64,
     iterate: u64,
@@ -36,22 +36,22 @@ fn put(words: &mut [u64], at: usize, a: u64, b: u64, c: u64, d: u64, e: u64, f: 
     words[at + 5] = f;
 }
 
-// What a verdict says.
-fn words_of(verdict: Verdict) -> Said
+// A verdict's words, by its number and values.
+fn words_of(verdict: Verdict) -> VerdictWords
     ensures { λ r. ⌜ (r .number ≡ verdict-values verdict .number) × (r .rounds ≡ verdict-values verdict .rounds) × (r .iterate ≡ verdict-values verdict .iterate) ⌝ }
 {
     match verdict {
-        Verdict::Equal { iterate, rounds } => Said {
+        Verdict::Equal { iterate, rounds } => VerdictWords {
             number: 0,
             rounds,
             iterate: iterate as u64,
         },
-        Verdict::Different { rounds } => Said {
+        Verdict::Different { rounds } => VerdictWords {
             number: 1,
             rounds,
             iterate: 0,
         },
-        Verdict::Spent => Said {
+        Verdict::Spent => VerdictWords {
             number: 9,
             rounds: 0,
             iterate: 0,
@@ -59,10 +59,10 @@ fn words_of(verdict: Verdict) -> Said
     }
 }
 
-// Writes an answer's words.
+// Writes an answer's words, and returns 0 answered or 2 refused.
 fn write(answer: Answer, words: &mut [u64]) -> u64
     requires { ⌜ 12 ≤ length (now words) ⌝ }
-    ensures { λ r. ⌜ (r ≡ kindOf answer) × (now (words .exit) ≡ answered (now (words .entry)) answer) ⌝ }
+    ensures { λ r. ⌜ (r ≡ kindOf answer) × (now (words .exit) ≡ written (now (words .entry)) answer) ⌝ }
 {
     match answer {
         Answer::Answered {

@@ -44,21 +44,21 @@ returns-2 c = search needs
 array-share-prefix-left : tie.Need-array-share-prefix-left
 array-share-prefix-left c = search needs
 
-slice-aggregate-compare-both : tie.Need-slice-aggregate-compare-both
-slice-aggregate-compare-both c =
+slice-aggregate-print-texts : tie.Need-slice-aggregate-print-texts
+slice-aggregate-print-texts c =
     let r = c .before .before .before .before .before .before .before .before .read-file in
     simp length-take (omega (arith, r .ensures, r .kept .1 .0))
 
 array-share-prefix-right : tie.Need-array-share-prefix-right
 array-share-prefix-right c = search needs
 
-slice-aggregate-compare-both-2 : tie.Need-slice-aggregate-compare-both-2
-slice-aggregate-compare-both-2 c =
+slice-aggregate-print-texts-2 : tie.Need-slice-aggregate-print-texts-2
+slice-aggregate-print-texts-2 c =
     let r = c .before .before .before .before .read-file2 in
     simp length-take (omega (arith, r .ensures, r .kept .1 .0))
 
-compare-both-requires : tie.Need-compare-both-requires
-compare-both-requires c κs = search needs
+print-texts-requires : tie.Need-print-texts-requires
+print-texts-requires c κs = search needs
 
 returns-3 : tie.Need-returns-3
 returns-3 c = search needs
@@ -80,8 +80,8 @@ run-spec =
     say-requires-2
     returns-2
     array-share-prefix-left
-    slice-aggregate-compare-both
+    slice-aggregate-print-texts
     array-share-prefix-right
-    slice-aggregate-compare-both-2
-    compare-both-requires
+    slice-aggregate-print-texts-2
+    print-texts-requires
     returns-3)

@@ -1,5 +1,4 @@
 -- `nodes::lookup::look_up` meets its contract: by what the calls ensure. Assumes nothing.
-use mathlib.Core.Path.{sym, _∙_}
 use borrow.Author.Needs.{needs}
 use borrow.Author.Tests.{not-true, not-false}
 use Rattle.nodes.specs.Lookup.{slices}

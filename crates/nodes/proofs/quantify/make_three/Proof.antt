@@ -2,7 +2,6 @@
 use borrow.Author.Needs.{needs}
 use borrow.Author.Tests.{eqb-true}
 use mathlib.Core.Path.{_≡_, sym, ap₂, subst, _∙_}
-use Prim.Native.Nat.{ℕ}
 use Rattle.nodes.specs.Table.{Entry}
 use Rattle.nodes.specs.internal.Packed.{packed-table}
 use Rattle.nodes.specs.internal.Make.{nodeFun, Making}

@@ -1,6 +1,6 @@
 -- `nodes::hash` meets its contract. Assumes nothing.
 use borrow.Author.Needs.{needs}
-use mathlib.Core.Path.{sym, ap, ap₂, _∙_, subst}
+use mathlib.Core.Path.{sym, ap₂, _∙_, subst}
 use Prim.Native.Nat.{ℕ, _+_, _*_, _%_, _<_}
 use native.Mathlib.Nat.{mod-lt, mod-eq-of-lt}
 use Rattle.nodes.specs.internal.Index.{hashOf}
