@@ -18,6 +18,8 @@ pub struct Call<'a> {
     pub texts: [&'a [u8]; 2],
     pub entries: u64,
     pub limit: u64,
+    /// The verdicts that are asked for.
+    pub modes: &'a [Mode],
 }
 
 /// The rule that is broken.
@@ -127,29 +129,45 @@ fn of_neither(refusal: &Refusal, call: &Call, table: &mut Lent) -> String {
     format!("Refusal {number}: {}.\n{detail}What to do: {advice}.\n", rule(refusal))
 }
 
-/// What helps where the largest table is full. Fewer rounds need fewer nodes, so that a smaller limit may help, but none does where one round
-/// does not fit. That is asked with one more call, which does a part of what the refused one did.
+/// What helps where the largest table is full. Fewer rounds need fewer nodes, so that a smaller limit may fit and give one verdict; both never,
+/// since their list would be the refused one.
 fn largest_advice(call: &Call, table: &mut Lent) -> String {
     let smaller =
         "make the models smaller, with fewer states or fewer leaves; no table is larger than this one";
-    let one_round = match call.limit {
-        0 | 1 => None,
-        _ => table.get().and_then(|table| table.compare(call.texts[0], call.texts[1], 1)).ok(),
-    };
-    let Some(both) = one_round else {
-        return format!(
-            "{smaller}, and no limit helps: the steps, the weak steps and a single round need more nodes than fit"
-        );
-    };
-    let given = match [both.strong, both.weak].map(|verdict| verdict.rounds().is_some()) {
-        [true, _] => "the strong verdict",
-        [false, true] => "the weak verdict",
-        [false, false] if call.limit == 2 => {
-            return format!("{smaller}, and no limit helps: --limit 1 gives no verdict")
+    match one_verdict(call, table) {
+        None => format!("{smaller}, and no limit helps: none gives a verdict"),
+        Some((limit, mode)) if call.modes.contains(&mode) => {
+            format!("{smaller}. Or give --limit {limit}, which gives the {} verdict alone", word(mode))
         }
-        [false, false] => "no verdict",
-    };
-    format!("{smaller}. Or give a smaller limit with --limit N: fewer rounds need fewer nodes, and a verdict that takes few of them may fit. --limit 1 gives {given}")
+        Some((limit, mode)) => {
+            let asked = call.modes.iter().map(|mode| word(*mode)).collect::<Vec<_>>().join(" and ");
+            format!(
+                "{smaller}, and no limit gives the {asked} verdict; --limit {limit} gives the {} one",
+                word(mode)
+            )
+        }
+    }
+}
+
+/// A limit that fits and gives a verdict, and which one. The limits that fit are searched upwards in growing steps.
+fn one_verdict(call: &Call, table: &mut Lent) -> Option<(u64, Mode)> {
+    let (mut fits, mut full, mut step) = (0, call.limit, 1);
+    while fits + 1 < full {
+        let limit = fits.saturating_add(step).min(full - 1);
+        match table.get().and_then(|table| table.compare(call.texts[0], call.texts[1], limit)) {
+            Ok(both) => {
+                let fallen = [Mode::Strong, Mode::Weak]
+                    .into_iter()
+                    .find(|mode| both.verdict(*mode).rounds().is_some());
+                if let Some(mode) = fallen {
+                    return Some((limit, mode));
+                }
+                (fits, step) = (limit, step.saturating_mul(2));
+            }
+            Err(_) => (full, step) = (limit, 1),
+        }
+    }
+    None
 }
 
 /// The refusal where the steps of one accepted model are listed. `smaller` says what helps where the largest table is full.

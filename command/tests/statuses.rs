@@ -80,6 +80,7 @@ fn json_in_every_case() {
     let cases: &[(&[&str], i32, &str)] = &[
         (&["compare", "a.hex", "a.hex"], 0, "\"verdict\": \"equal\""),
         (&["compare", "a.hex", "b.hex"], 1, "\"verdict\": \"different\""),
+        (&["compare", "bad.hex", "a.hex"], 2, "\"number\": 5, \"side\": \"left\", \"line\": 0"),
         (&["compare", "a.hex", "bad.hex"], 2, "\"number\": 5, \"side\": \"right\", \"line\": 0"),
         (
             &["compare", "a.hex", "a.hex", "--nodes", "4"],

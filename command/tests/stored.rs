@@ -13,6 +13,7 @@ const HANDLER: &str = "models/lotos_handler_no_calls.hex";
 const CALLER: &str = "models/lotos_caller.hex";
 const CELLS9: &str = "models/shuttle9_cells.hex";
 const CELLS16: &str = "models/shuttle16_cells.hex";
+const CELLS4: &str = "models/shuttle4_cells.hex";
 /// With itself: strong equal after 2 rounds, weak after 3.
 const CHAIN: &str = "models/buffer_chain2.hex";
 
@@ -31,6 +32,9 @@ const RUNS: &[(&str, &[&str])] = &[
     ("compare_too_large_for_one", &["compare", CELLS16, "models/shuttle16_service.hex", "--limit", "1"]),
     ("compare_too_large_for_any", &["compare", CELLS16, "models/shuttle16_service.hex", "--mode", "strong"]),
     ("compare_too_large_for_nine", &["compare", CELLS9, "models/shuttle9_service.hex", "--limit", "9"]),
+    ("compare_too_large_for_weak", &["compare", CELLS9, "models/shuttle9_service.hex", "--mode", "weak"]),
+    ("compare_too_large_for_seven", &["compare", CELLS4, "models/shuttle4_cells_faulty.hex", "--limit", "7"]),
+    ("pairs_too_large", &["pairs", CELLS9, "models/shuttle9_service.hex"]),
     ("compare_table_of_one", &["compare", "models/abp.hex", "models/abp_service.hex", "--nodes", "1"]),
     (
         "compare_limit",
@@ -135,14 +139,19 @@ fn largest_text() {
     judged("accepted_24_bits", "000140\n01020000\n02020101\n", 0);
 }
 
-/// A text alone and on the right side.
+/// A text alone and on each side.
 fn judged(name: &str, text: &str, status: i32) {
     let folder = Folder::new();
     folder.write("model.hex", text);
     folder.write("good.hex", "000101\n");
     let mut all = String::new();
-    for words in [&["check", "model.hex"][..], &["compare", "good.hex", "model.hex"], &["show", "model.hex"]]
-    {
+    let runs: [&[&str]; 4] = [
+        &["check", "model.hex"],
+        &["compare", "model.hex", "good.hex"],
+        &["compare", "good.hex", "model.hex"],
+        &["show", "model.hex"],
+    ];
+    for words in runs {
         let ran = folder.run(words);
         assert_eq!(ran.status, status, "{name} {words:?}");
         all += &format!("$ {}\n{}{}", words.join(" "), ran.out, ran.err);

@@ -49,29 +49,64 @@ fn shipped_pairs() {
     }
 }
 
-/// Where the largest table is full, what is said of a limit of 1 is what it gives, and after it no limit is advised.
+/// A pair that fills the largest table, whose weak verdict falls after one round, and not by any limit the strong one.
+fn hidden_leaves(folder: &Folder) -> [String; 2] {
+    let stored = fs::read_to_string(top().join("tests/vectors.tsv")).expect("the stored vectors");
+    let row = stored
+        .lines()
+        .find(|row| row.starts_with("big 24 bits hidden self, longest table"))
+        .expect("it is stored");
+    let texts: Vec<&str> = row.split('\t').collect();
+    [("left.hex", texts[1]), ("right.hex", texts[2])].map(|(name, text)| {
+        folder.write(name, text.replace('/', "\n"));
+        folder.0.join(name).to_string_lossy().into_owned()
+    })
+}
+
+/// The verdicts of a comparison's lines that are no refusals.
+fn fallen(out: &str) -> Vec<&'static str> {
+    let fell = |mode: &str| {
+        ["different", "equal"].iter().any(|verdict| out.contains(&format!("{mode:<6}  {verdict}")))
+    };
+    ["strong", "weak"].into_iter().filter(|mode| fell(mode)).collect()
+}
+
+/// Where the largest table is full, a limit that is advised gives the verdict that is named; where none is, no limit up to the first that is
+/// refused gives a verdict.
 #[test]
 fn advised_limits() {
     let rows = fs::read_to_string(top().join("models/EXPECTED.tsv")).expect("the stored verdicts");
-    let mut advised = 0;
+    let folder = Folder::new();
+    let mut pairs = vec![hidden_leaves(&folder)];
     for row in rows.lines().filter(|row| row.ends_with("\t-")) {
-        let files: Vec<String> = row.split('\t').take(2).map(|file| format!("models/{file}")).collect();
-        let compare = |more: &[&str]| run(&[&["compare", &files[0], &files[1]], more].concat()).out;
-        let (whole, one) = (compare(&[]), compare(&["--limit", "1"]));
-        let fell = |mode: &str| {
-            one.contains(&format!("{mode:<6}  different")) || one.contains(&format!("{mode:<6}  equal"))
-        };
-        let given = match [fell("strong"), fell("weak")] {
-            [true, _] => "--limit 1 gives the strong verdict.",
-            [_, true] => "--limit 1 gives the weak verdict.",
-            _ if one.contains("Refusal 8") => "no limit helps: the steps, the weak steps and a single round",
-            _ => "--limit 1 gives no verdict.",
-        };
-        assert!(whole.contains("Refusal 8") && whole.contains(given), "{row}: {whole}");
-        assert!(!one.contains("Refusal 8") || !one.contains("--limit"), "{row}: {one}");
-        advised += usize::from(given.starts_with("--limit"));
+        let mut files = row.split('\t').map(|file| format!("models/{file}"));
+        pairs.push([files.next().expect("left"), files.next().expect("right")]);
     }
-    assert!(advised > 5, "{advised} pairs fit with a limit of 1");
+    let mut advised = Vec::new();
+    for files in &pairs {
+        let compare = |more: &[&str]| run(&[&["compare", &files[0], &files[1]], more].concat()).out;
+        let whole = compare(&[]);
+        let Some((_, advice)) = whole.split_once("Or give --limit ") else {
+            assert!(whole.contains("no limit helps: none gives a verdict"), "{files:?}: {whole}");
+            let by_limit = |limit: u32| compare(&["--limit", &limit.to_string()]);
+            let fitting: Vec<String> =
+                (1..).map(by_limit).take_while(|out| !out.contains("Refusal 8")).collect();
+            assert!(fitting.iter().all(|out| fallen(out).is_empty()), "{files:?}: {fitting:?}");
+            continue;
+        };
+        let limit = advice.split(',').next().expect("a number");
+        let [given] = fallen(&compare(&["--limit", limit]))[..] else { panic!("{files:?}: {whole}") };
+        assert!(advice.contains(&format!("gives the {given} verdict alone")), "{files:?}: {whole}");
+        let other = if given == "weak" { "strong" } else { "weak" };
+        let words = format!("no limit gives the {other} verdict; --limit {limit} gives the {given} one.");
+        assert!(compare(&["--mode", other]).contains(&words), "{files:?} {words}");
+        advised.push((limit.to_string(), given));
+    }
+    assert_eq!(advised.len(), 4, "{advised:?}");
+    assert!(
+        advised.contains(&("1".to_string(), "weak")) && advised.contains(&("6".to_string(), "strong")),
+        "{advised:?}"
+    );
 }
 
 #[test]

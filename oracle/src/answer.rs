@@ -29,12 +29,12 @@ pub enum Answer {
 }
 
 /// What stands in the place of a verdict that does not fall by the limit.
-const SPENT: &str = "refused 9 2 0";
+const UNDECIDED: &str = "refused 9 2 0";
 
 /// A verdict's place in an answer.
 fn place(outcome: Outcome) -> String {
     match outcome {
-        Outcome::Undecided => SPENT.to_string(),
+        Outcome::Undecided => UNDECIDED.to_string(),
         verdict => verdict.to_string(),
     }
 }
@@ -43,7 +43,7 @@ fn read_place(words: &str) -> Option<Outcome> {
     match words.split_once(' ')? {
         ("equal", rounds) => Some(Outcome::Equal(rounds.parse().ok()?)),
         ("different", rounds) => Some(Outcome::Different(rounds.parse().ok()?)),
-        _ => (words == SPENT).then_some(Outcome::Undecided),
+        _ => (words == UNDECIDED).then_some(Outcome::Undecided),
     }
 }
 
@@ -162,14 +162,6 @@ pub fn compare_checked(left: &[u8], right: &[u8], limit: u64, lens: (usize, usiz
     match read_both(left, right) {
         Ok((left, right)) => compare_models(&left, &right, limit, lens.0 - 2),
         Err(answer) => refused(answer),
-    }
-}
-
-pub fn mode_of(number: u64) -> Option<Mode> {
-    match number {
-        0 => Some(Mode::Strong),
-        1 => Some(Mode::Weak),
-        _ => None,
     }
 }
 

@@ -152,13 +152,19 @@ pub fn work(random: &mut Random, length: usize) -> usize {
     }
 }
 
-/// A longer table, a table that a limited list just fits or not, a call that refusal 7 is due of, or too few words.
+/// A longer table, a table that a limited list just fits or not, a call that refusal 7 is due of, or too few words, at times also where 7 would
+/// be due.
 fn other(random: &mut Random, pair: &Pair, call: &Call) -> Call {
     let mut other = call.clone();
     match random.below(8) {
         0 => other.table = [random.below(2); 3],
         1 => other.table = unequal(random, call.table[0]),
-        2 => other.words = random.below(WORDS),
+        2 => {
+            other.words = random.below(WORDS);
+            if random.once_in(2) {
+                other.table = unequal(random, call.table[0]);
+            }
+        }
         3 => other.table = long(random, pair),
         4 if pair.has_verdicts() => other.table = [call.table[0] + random.below(1000); 3],
         _ => other.table = at_limit(random, pair, call),

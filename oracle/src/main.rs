@@ -4,7 +4,7 @@ use std::io::{self, BufWriter, Write};
 use std::process::ExitCode;
 use std::{env, fs};
 
-use oracle::answer::{compare_models, decide, mode_of};
+use oracle::answer::{compare_models, decide};
 use oracle::bisim::Mode;
 use oracle::model::Model;
 use oracle::random::Random;
@@ -141,7 +141,11 @@ fn number<N: std::str::FromStr>(word: &str) -> Result<N, String> {
 }
 
 fn mode_number(word: &str) -> Result<Mode, String> {
-    mode_of(number(word)?).ok_or_else(|| "mode is 0 (strong) or 1 (weak)".to_string())
+    match number(word)? {
+        0 => Ok(Mode::Strong),
+        1 => Ok(Mode::Weak),
+        _ => Err("mode is 0 (strong) or 1 (weak)".to_string()),
+    }
 }
 
 fn model(path: &str) -> Result<Model, String> {

@@ -2,7 +2,7 @@
 
 use std::collections::BTreeSet;
 
-use oracle::answer::{Answer, Known, MAX_TABLE, WORDS};
+use oracle::answer::{table_fits, Answer, Known, MAX_TABLE, WORDS};
 use oracle::bisim::Outcome;
 use oracle::calls::{any_pair, calls, shown, Call, Pair};
 use oracle::generate::{FORMER_BITS, WIDE};
@@ -149,6 +149,13 @@ fn every_answer_comes_up() {
     assert!(VERDICTS.iter().all(|&sort| seen.contains(sort)), "{seen:?}");
     // Beside these 0 to 11 words, 1 to 6 on two sides, 7 and 8.
     assert_eq!(seen.len(), VERDICTS.len() + WORDS + 12 + 2, "{seen:?}");
+}
+
+/// Too few words are told before 7, whatever is wrong with the table.
+#[test]
+fn too_few_words_come_up_beside_an_unfit_table() {
+    let unfit = |call: &Call| call.words < WORDS && !table_fits(call.table.into());
+    assert!(pairs().any(|(pair, mut random)| calls(&mut random, &pair).iter().any(unfit)));
 }
 
 #[test]

@@ -58,10 +58,12 @@ impl<'t> Verdict<'t> {
         }
     }
 
+    /// Whether a bisimulation of this kind relates the starts; false also where no verdict fell.
     pub fn equal(&self) -> bool {
         matches!(self, Verdict::Equal { .. })
     }
 
+    /// Whether none does; false also where no verdict fell.
     pub fn different(&self) -> bool {
         matches!(self, Verdict::Different { .. })
     }
@@ -83,7 +85,7 @@ impl<'t> Verdict<'t> {
     }
 
     /// Whether the largest bisimulation holds the pair of states; nothing where the models are not equal, since the table then shows no
-    /// bisimulation of this kind.
+    /// bisimulation of this kind. Codes are those of the models, 0 to 2^bits - 1; one of `CODES` or more is refused with 10.
     pub fn related(&self, left: u64, right: u64) -> Result<Option<bool>, Refusal> {
         self.largest().map(|root| root.look_up(0, [left, 0, right, 0])).transpose()
     }
@@ -101,7 +103,9 @@ pub struct Comparison<'t> {
     pub left: Root<'t>,
     /// The relation of the right model.
     pub right: Root<'t>,
+    /// The verdict by single steps.
     pub strong: Verdict<'t>,
+    /// The verdict by weak answers.
     pub weak: Verdict<'t>,
     /// The nodes that both verdicts needed together.
     pub nodes: u64,

@@ -60,7 +60,7 @@ static uint64_t first_wide(const uint8_t *text, uint64_t lines) {
 }
 
 /* Faults in the limit of bits that a comparison keeps to. */
-static uint64_t limit_fault(uint64_t kind, const uint8_t *left, size_t left_len, const uint8_t *right, const uint64_t *answer) {
+static uint64_t bit_limit_fault(uint64_t kind, const uint8_t *left, size_t left_len, const uint8_t *right, const uint64_t *answer) {
     uint64_t told[MODEL_WORDS];
     if (fault("a bit too many taken") && kind == REFUSED && answer[0] == 6 && bits_of(answer[1] ? right : left, answer[2]) == MAX_BITS + 1) return ANSWERED;
     if (fault("former limit of bits") && kind == ANSWERED && __real_seipolku_model((uint8_t *)left, left_len, told, MODEL_WORDS) == ACCEPTED)
@@ -139,7 +139,7 @@ static void refusal_fault(uint64_t *answer) {
 }
 
 /* Faults in single words of an answer with verdicts. */
-static void word_fault(uint64_t *answer, size_t work_len) {
+static void answer_fault(uint64_t *answer, size_t work_len) {
     uint64_t *strong = answer + STRONG, *weak = answer + WEAK;
     if (fault("strong verdict") && strong[0] == EQUAL && answer[NODES] > 100) strong[0] = DIFFERENT, strong[ROOT] = 0;
     if (fault("weak verdict") && weak[0] == EQUAL && answer[NODES] > 100) weak[0] = DIFFERENT, weak[ROOT] = 0;
@@ -192,10 +192,11 @@ static void memory_fault(uint64_t kind, COMPARE_ARGUMENTS) {
 }
 
 /* Faults in the number of words that an answer has to have. */
-static uint64_t words_needed_fault(COMPARE_ARGUMENTS) {
+static uint64_t answer_length_fault(COMPARE_ARGUMENTS) {
     uint64_t taken[WORDS];
     int less = (fault("eleven words taken") && words == WORDS - 1) || (fault("six words taken") && words >= MODEL_WORDS && words < WORDS);
     if (fault("twelve words refused") && words == WORDS) words--;
+    if (fault("7 before too few words") && words < WORDS && (level_len != low_len || low_len != high_len)) return REFUSED;
     uint64_t kind = __real_seipolku_compare(left, left_len, right, right_len, limit, level, level_len, low, low_len, high, high_len, work, work_len,
                                             less ? taken : answer, less ? WORDS : words);
     if (less) memcpy(answer, taken, words * 8);
@@ -210,7 +211,7 @@ uint64_t __wrap_seipolku_compare(COMPARE_ARGUMENTS) {
     if (fault("lengths not compared")) low_len = high_len = level_len;
     if (fault("an entry too few") && level_len > 2) level_len--, low_len--, high_len--;
     if (fault("an entry too many") && level_len > 1) level_len++, low_len++, high_len++;
-    uint64_t kind = words_needed_fault(left, left_len, right, right_len, limit, level, level_len, low, low_len, high, high_len, work, work_len, answer, words);
+    uint64_t kind = answer_length_fault(left, left_len, right, right_len, limit, level, level_len, low, low_len, high, high_len, work, work_len, answer, words);
     memory_fault(kind, left, left_len, right, right_len, limit, level, level_len, low, low_len, high, high_len, work, work_len, answer, words);
     if (kind == SHORT || words < WORDS) {
         if (fault("short answer written") && words > 0) answer[0] = 7;
@@ -219,11 +220,11 @@ uint64_t __wrap_seipolku_compare(COMPARE_ARGUMENTS) {
     if (fault("thirteenth word") && words > WORDS) answer[WORDS] = 0;
     if (kind == REFUSED) refusal_fault(answer);
     if (kind == ANSWERED) {
-        mode_fault(answer), word_fault(answer, work_len);
+        mode_fault(answer), answer_fault(answer, work_len);
         list_fault(left, left_len, right, right_len, low, high, level_len, answer);
     }
     kind = kind_fault(kind, left, left_len, right, right_len, limit, level_len, answer);
-    return limit_fault(kind, left, left_len, right, answer);
+    return bit_limit_fault(kind, left, left_len, right, answer);
 }
 
 /* Faults in the four codes. */
@@ -267,7 +268,7 @@ uint64_t __wrap_seipolku_look_up(LOOK_UP_ARGUMENTS) {
 }
 
 /* Faults in the words of an answer that is long enough. */
-static void words_fault(uint64_t kind, uint64_t *answer) {
+static void model_answer_fault(uint64_t kind, uint64_t *answer) {
     if (kind == REFUSED) {
         if (fault("model, number") && answer[0] == 6) answer[0] = 5;
         if (fault("model, side")) answer[1] = 2;
@@ -304,7 +305,7 @@ uint64_t __wrap_seipolku_model(MODEL_ARGUMENTS) {
         return fault("model, short answer taken") ? 0 : kind;
     }
     uint64_t returned = bits_fault(kind, text, answer);
-    words_fault(kind, answer);
+    model_answer_fault(kind, answer);
     if (fault("model, seventh word") && words > MODEL_WORDS) answer[MODEL_WORDS] = 0;
     return fault("model, refused as accepted") ? ACCEPTED : returned;
 }

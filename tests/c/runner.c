@@ -35,6 +35,13 @@ SAME(SEIPOLKU_WEAK_VERDICT, WEAK);
 SAME(SEIPOLKU_WEAK_ROUNDS, WEAK + ROUNDS);
 SAME(SEIPOLKU_WEAK_ROOT, WEAK + ROOT);
 SAME(SEIPOLKU_NODES, NODES);
+SAME(SEIPOLKU_REFUSAL_NUMBER, 0);
+SAME(SEIPOLKU_REFUSAL_SIDE, 1);
+SAME(SEIPOLKU_REFUSAL_LINE, 2);
+SAME(SEIPOLKU_MODEL_BITS, 0);
+SAME(SEIPOLKU_MODEL_LINES, 1);
+SAME(SEIPOLKU_MODEL_USES, 2);
+SAME(SEIPOLKU_MODEL_STATES, 3);
 
 /* A comparison but for its texts. Expected are the returned kind, and each mode's verdict with its rounds, strong before weak, and the nodes; or a refusal's
    number, side and line. */

@@ -26,8 +26,6 @@ struct Compared<'a> {
     basis: Option<Basis>,
     answer: Result<Comparison<'a>, Refused>,
     time: Duration,
-    /// The verdicts that are shown and decide the exit status.
-    modes: Vec<Mode>,
 }
 
 /// A refusal of the whole comparison, with its explanation.
@@ -46,12 +44,12 @@ pub fn run(given: &Given) -> Answer {
     let mut table = proved::table(entries)?;
     let quiet = given.flag("--quiet");
     let (answer, time) = progress::timed("comparing", !quiet, || table.get()?.compare(&left, &right, limit));
-    let call = Call { files, texts: [&left, &right], entries, limit };
+    let call = Call { files, texts: [&left, &right], entries, limit, modes: &modes };
     let answer = match answer {
         Ok(both) => Ok(both),
         Err(refusal) => Err(Refused { refusal, words: refusals::of_comparison(&refusal, &call, &mut table) }),
     };
-    let compared = Compared { call, basis, answer, time, modes };
+    let compared = Compared { call, basis, answer, time };
     let text = match (given.flag("--json"), quiet) {
         (true, _) => compared.json(),
         (false, true) => String::new(),
@@ -114,7 +112,7 @@ impl Compared<'_> {
     /// The worst of the verdicts that are shown.
     fn status(&self) -> u8 {
         match &self.answer {
-            Ok(both) => self.modes.iter().map(|mode| status(both.verdict(*mode))).max().unwrap_or(EQUAL),
+            Ok(both) => self.call.modes.iter().map(|mode| status(both.verdict(*mode))).max().unwrap_or(EQUAL),
             Err(_) => REFUSED,
         }
     }
@@ -131,8 +129,12 @@ impl Compared<'_> {
                 line("both", "refused", &format!("{}, {seconds:.3} s", refusals::short(refusal)))
             }
             Ok(both) => {
-                let lines: String =
-                    self.modes.iter().map(|mode| self.verdict_line(*mode, both.verdict(*mode))).collect();
+                let lines: String = self
+                    .call
+                    .modes
+                    .iter()
+                    .map(|mode| self.verdict_line(*mode, both.verdict(*mode)))
+                    .collect();
                 format!("{lines}{:<6}  {}, {seconds:.3} s\n", "both", counted(both.nodes, "node"))
             }
         };
@@ -157,7 +159,7 @@ impl Compared<'_> {
             Err(refused) => Some(refused.words.clone()),
             Ok(both) => {
                 let undecided = |mode: &&Mode| both.verdict(**mode).rounds().is_none();
-                let modes: Vec<Mode> = self.modes.iter().filter(undecided).copied().collect();
+                let modes: Vec<Mode> = self.call.modes.iter().filter(undecided).copied().collect();
                 (!modes.is_empty()).then(|| refusals::of_limit(&modes, both, self.call.limit))
             }
         }
@@ -166,7 +168,7 @@ impl Compared<'_> {
     fn json(&self) -> String {
         let file = |path: &Path| json::string(&path.to_string_lossy());
         let null = || "null".to_string();
-        let answers: Vec<String> = self.modes.iter().map(|mode| self.json_answer(*mode)).collect();
+        let answers: Vec<String> = self.call.modes.iter().map(|mode| self.json_answer(*mode)).collect();
         let notes: Vec<String> = self.notes().iter().map(|note| json::string(note)).collect();
         let whole = json::object(&[
             ("left", file(self.call.files[0])),

@@ -95,7 +95,7 @@ pub fn run(given: &Given) -> Answer {
     let (answer, _) = progress::timed("comparing", true, || table.get()?.compare(texts[0], texts[1], limit));
     let (text, status) = match answer.map(|both| (both.verdict(mode), both)) {
         Err(refusal) => {
-            let call = Call { files, texts, entries, limit };
+            let call = Call { files, texts, entries, limit, modes: &[mode] };
             (refusals::of_comparison(&refusal, &call, &mut table), REFUSED)
         }
         Ok((Verdict::Equal { largest, .. }, _)) => {
