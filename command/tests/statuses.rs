@@ -64,6 +64,46 @@ fn string(letters: &mut Letters) -> bool {
     }
 }
 
+/// Words for the command, its exit status, and a part of the object.
+const JSON_CASES: &[(&[&str], i32, &str)] = &[
+    (&["compare", "a.hex", "a.hex"], 0, "\"verdict\": \"equal\""),
+    (&["compare", "a.hex", "b.hex"], 1, "\"verdict\": \"different\""),
+    (&["compare", "bad.hex", "a.hex"], 2, "\"number\": 5, \"side\": \"left\", \"line\": 0"),
+    (&["compare", "a.hex", "bad.hex"], 2, "\"number\": 5, \"side\": \"right\", \"line\": 0"),
+    (
+        &["compare", "a.hex", "a.hex", "--nodes", "4"],
+        2,
+        "\"number\": 8, \"side\": \"neither\", \"line\": null",
+    ),
+    (&["compare", "a.hex", "a.hex", "--nodes", "1"], 2, "\"number\": 7, \"side\": \"neither\", \"line\": null"),
+    (&["compare", "a.hex", "a.hex", "--limit", "0"], 2, "\"number\": 9"),
+    (&["compare", "a.hex", "bad.hex"], 2, "\"nodes\": null, \"seconds\": "),
+    (
+        &["compare", "a.hex", "a.hex", "--mode", "weak"],
+        0,
+        "\"answers\": [{\"mode\": \"weak\", \"verdict\": \"equal\", \"rounds\": 2}], \"nodes\": ",
+    ),
+    (&["compare", "a.hex", "late.hex", "--limit", "1", "--mode", "strong"], 1, "\"rounds\": 1}], "),
+    (
+        &["compare", "a.hex", "late.hex", "--limit", "1"],
+        2,
+        "\"rounds\": 1}, {\"mode\": \"weak\", \"verdict\": \"refused\", \"number\": 9, \"side\": \"neither\", \"line\": null, ",
+    ),
+    (&["compare", "a.hex", "a.hex", "--quiet"], 0, "\"verdict\": \"equal\""),
+    (&["compare", "a.hex", "named.hex"], 0, "does not name its channels"),
+    (&["compare", "other.hex", "named.hex"], 3, "the name tables disagree"),
+    (&["compare", "broken.hex", "named.hex"], 3, "broken.names, line 1, column 1: "),
+    (&["compare", "a.hex", "nothing.hex"], 3, "nothing.hex can't be read"),
+    (&["compare", "a.hex"], 3, "compare takes two files"),
+    (&["compare", "a.hex", "a.hex", "--fast"], 3, "compare has no option --fast"),
+    (&["compare", "a.hex", "a.hex", "--nodes", "x"], 3, "from 2 to 1,048,576, not 'x'"),
+    (&["compare", "a.hex", "a.hex", "--mode", "x"], 3, "--mode takes strong, weak or both"),
+    (&["compare", "a.hex", "a.hex", "--json=yes"], 3, "--json takes no value"),
+    (&["pairs", "a.hex", "a.hex"], 3, "pairs has no option --json"),
+    (&["frobnicate"], 3, "there is no subcommand"),
+    (&[], 3, "there is no subcommand '--json'"),
+];
+
 #[test]
 fn json_in_every_case() {
     let folder = Folder::new();
@@ -77,45 +117,7 @@ fn json_in_every_case() {
     folder.write("other.names", "channel 1 b\n");
     folder.write("broken.hex", "000102000201\n");
     folder.write("broken.names", "\u{1}\n");
-    let cases: &[(&[&str], i32, &str)] = &[
-        (&["compare", "a.hex", "a.hex"], 0, "\"verdict\": \"equal\""),
-        (&["compare", "a.hex", "b.hex"], 1, "\"verdict\": \"different\""),
-        (&["compare", "bad.hex", "a.hex"], 2, "\"number\": 5, \"side\": \"left\", \"line\": 0"),
-        (&["compare", "a.hex", "bad.hex"], 2, "\"number\": 5, \"side\": \"right\", \"line\": 0"),
-        (
-            &["compare", "a.hex", "a.hex", "--nodes", "4"],
-            2,
-            "\"number\": 8, \"side\": \"neither\", \"line\": null",
-        ),
-        (&["compare", "a.hex", "a.hex", "--nodes", "1"], 2, "\"number\": 7, \"side\": \"neither\", \"line\": null"),
-        (&["compare", "a.hex", "a.hex", "--limit", "0"], 2, "\"number\": 9"),
-        (&["compare", "a.hex", "bad.hex"], 2, "\"nodes\": null, \"seconds\": "),
-        (
-            &["compare", "a.hex", "a.hex", "--mode", "weak"],
-            0,
-            "\"answers\": [{\"mode\": \"weak\", \"verdict\": \"equal\", \"rounds\": 2}], \"nodes\": ",
-        ),
-        (&["compare", "a.hex", "late.hex", "--limit", "1", "--mode", "strong"], 1, "\"rounds\": 1}], "),
-        (
-            &["compare", "a.hex", "late.hex", "--limit", "1"],
-            2,
-            "\"rounds\": 1}, {\"mode\": \"weak\", \"verdict\": \"refused\", \"number\": 9, \"side\": \"neither\", \"line\": null, ",
-        ),
-        (&["compare", "a.hex", "a.hex", "--quiet"], 0, "\"verdict\": \"equal\""),
-        (&["compare", "a.hex", "named.hex"], 0, "does not name its channels"),
-        (&["compare", "other.hex", "named.hex"], 3, "the name tables disagree"),
-        (&["compare", "broken.hex", "named.hex"], 3, "broken.names, line 1, column 1: "),
-        (&["compare", "a.hex", "nothing.hex"], 3, "nothing.hex can't be read"),
-        (&["compare", "a.hex"], 3, "compare takes two files"),
-        (&["compare", "a.hex", "a.hex", "--fast"], 3, "compare has no option --fast"),
-        (&["compare", "a.hex", "a.hex", "--nodes", "x"], 3, "from 2 to 1,048,576, not 'x'"),
-        (&["compare", "a.hex", "a.hex", "--mode", "x"], 3, "--mode takes strong, weak or both"),
-        (&["compare", "a.hex", "a.hex", "--json=yes"], 3, "--json takes no value"),
-        (&["pairs", "a.hex", "a.hex"], 3, "pairs has no option --json"),
-        (&["frobnicate"], 3, "there is no subcommand"),
-        (&[], 3, "there is no subcommand '--json'"),
-    ];
-    for (words, status, expected) in cases {
+    for (words, status, expected) in JSON_CASES {
         let ran = folder.run(&[words, &["--json"][..]].concat());
         assert_eq!(ran.status, *status, "{words:?}: {}{}", ran.out, ran.err);
         assert!(object(&ran.out), "{words:?}: {}", ran.out);
