@@ -3,11 +3,11 @@ use mathlib.Core.Path.{_≡_, refl, sym, ap, _∙_}
 use mathlib.Core.Logic.{_↔_}
 use mathlib.Core.Bool.{Bool, true, false, cond, _&&_, false≢true}
 use mathlib.Core.List.{List, [], _∷_, _++_}
-use Prim.Native.Nat.{ℕ, zero, suc, _+_, _-_, _*_, _/_, _≤_, _<_}
+use Prim.Native.Nat.{ℕ, zero, suc, _+_, _-_, _*_, _/_, _%_, _≤_, _<_}
 use native.Mathlib.Nat.{le-refl, not-suc-le-zero}
 use native.Mathlib.Numerals.{add-one}
 use native.Mathlib.Omega.{arith}
-use borrow.Author.Tests.{lt-ltb, le-ltb, le-leb, lt-leb, ltb-true, leb-true, leb-false}
+use borrow.Author.Tests.{lt-ltb, le-ltb, le-leb, lt-leb, ltb-true, ltb-false, leb-true, leb-false}
 use lib.Dec.{ltb, leb}
 use lib.ListN.{length, take, drop, getD, set, replicate, length-append, length-replicate, drop-of-length-le}
 use lib.Seq.{drop-cons, take-suc, take-at, set-at, append-snoc, length-take-le}
@@ -37,6 +37,25 @@ hexValue-le c =
     (λ _. choice (λ (v : ℕ). v ≤ 16) (ltb c 65) 16 _ (λ _. le-refl 16)
     (λ _. choice (λ (v : ℕ). v ≤ 16) (leb c 70) (c - 55) 16 (λ h. omega (arith, leb-true c 70 h)) (λ _. le-refl 16))))
 
+-- the value of a digit by what is left of the byte past 48 and past 65, differences that wrap
+module _ (c d : ℕ) (is : (d + 48) % 256 ≡ c) where
+  pub hex-digit : d < 10 → d ≡ hexValue c
+  unfolding hexValue
+  hex-digit h = rw (le-ltb c 48 (omega arith), le-leb c 57 (omega arith)) (omega arith)
+
+  module _ (range : d < 256) (no : 10 ≤ d) (l : ℕ) (past : (l + 65) % 256 ≡ c) where
+    pub hex-letter : l < 6 → l + 10 ≡ hexValue c
+    unfolding hexValue
+    hex-letter h = rw (le-ltb c 48 (omega arith), lt-leb c 57 (omega arith), le-ltb c 65 (omega arith), le-leb c 70 (omega arith)) (omega arith)
+
+    pub hex-none : l < 256 → 6 ≤ l → 16 ≡ hexValue c
+    unfolding hexValue
+    hex-none r h =
+        choice (λ (v : ℕ). 16 ≡ v) (ltb c 48) 16 _ (λ _. refl)
+        (λ p. choice (λ (v : ℕ). 16 ≡ v) (leb c 57) (c - 48) _ (λ q. omega (arith, ltb-false c 48 p, leb-true c 57 q))
+        (λ _. choice (λ (v : ℕ). 16 ≡ v) (ltb c 65) 16 _ (λ _. refl)
+        (λ q. choice (λ (v : ℕ). 16 ≡ v) (leb c 70) (c - 55) 16 (λ k. omega (arith, ltb-false c 65 q, leb-true c 70 k)) (λ _. refl))))
+
 pub length-bytes : (d : List ℕ) → length (bytesOf d) ≡ length d / 2
 unfolding bytesOf
 length-bytes [] = refl
@@ -53,14 +72,6 @@ byte-digits (a ∷ b ∷ ds) (suc i) h =
     let e : 2 * suc i ≡ suc (suc (2 * i)) = omega arith in
     let e′ : suc (suc (2 * i)) + 1 ≡ suc (suc (2 * i + 1)) = omega arith in
     rw (e, e′) (byte-digits ds i (omega arith))
-
-pub isHex-no : (c : ℕ) → hexValue c ≡ 16 → isHex c ≡ false
-unfolding isHex
-isHex-no c e = le-ltb (hexValue c) 16 (omega arith)
-
-pub isHex-yes : (c : ℕ) → (hexValue c ≡ 16 → ⊥) → isHex c ≡ true
-unfolding isHex
-isHex-yes c n = lt-ltb (hexValue c) 16 (omega (arith, hexValue-le c))
 
 -- ---- a test at each element, from a place on
 
@@ -95,24 +106,6 @@ module _ (ds : List ℕ) (ok : spelt ds ≡ true) where
   byte-small i h =
       let l : i < length ds / 2 = omega (arith, length-bytes ds) in
       omega (arith, byte-digits ds i l, digit-small (2 * i) (omega arith), digit-small (2 * i + 1) (omega arith))
-
--- one byte more, before the zeros that fill m places
-pub filled : (b : List ℕ) (m i : ℕ) → i < length b → length b ≤ m
-    → set (take i b ++ replicate (m - i) 0) i (getD b i 0) ≡ take (i + 1) b ++ replicate (m - (i + 1)) 0
-filled b m i h f =
-    let k = m - (i + 1) in
-    let e : m - i ≡ suc k = omega arith in
-    ap (λ (n : ℕ). set (take i b ++ replicate n 0) i (getD b i 0)) e
-    ∙ set-at (take i b) 0 (replicate k 0) (getD b i 0) i (length-take-le i b (omega arith))
-    ∙ sym (append-snoc (take i b) (getD b i 0) (replicate k 0))
-    ∙ ap (λ (l : List ℕ). l ++ replicate k 0) (sym (take-suc b i 0 h) ∙ ap (λ (n : ℕ). take n b) (sym (add-one i)))
-
--- the same where the byte is put together from the values of its digits
-pub filled-digits : (ds : List ℕ) (m i : ℕ) {l : List ℕ} {high low : ℕ} → i < length ds / 2 → length (bytesOf ds) ≤ m → l ≡ take i (bytesOf ds) ++ replicate (m - i) 0
-    → high ≡ hexValue (getD ds (2 * i) 0) → low ≡ hexValue (getD ds (2 * i + 1) 0)
-    → set l i (high * 16 + low) ≡ take (i + 1) (bytesOf ds) ++ replicate (m - (i + 1)) 0
-filled-digits ds m i h f e p q =
-    rw (e, p, q, ← byte-digits ds i h) (filled (bytesOf ds) m i (omega (arith, length-bytes ds)) f)
 
 -- ---- what decoding answers
 
@@ -211,9 +204,3 @@ module _ (ds : List ℕ) (d : Decoded) (is : d ≡ decoded ds) where
   pub decoded-answer : decodingOf ds ≡ d .answer
   unfolding decoded
   decoded-answer = sym (ap (λ (x : Decoded). x .answer) is)
-
-  -- where it answered n bytes, they are the first n of those handed over
-  pub decoded-part : (n : ℕ) → d .answer ≡ Bytes n → (n ≤ length (d .bytes)) × (take n (d .bytes) ≡ bytesOf ds)
-  decoded-part n e =
-      let o = decodes ds n (decoded-answer ∙ e) in
-      rw is (omega (arith, decoded-room ds), o .handed)
