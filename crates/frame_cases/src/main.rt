@@ -1,10 +1,13 @@
 // Reads texts of every kind, good and bad, and prints what reading answers: "accepted" with the lines, and
-// the bits, leaf uses and states of the last line; or "refused" with the number and the line. Then their lines, through the reader.
+// the bits, leaf uses and states of the last line; or "refused" with the number and the line. Below it the same of the text read in pieces. Then the lines of
+// texts, through the reader.
 mod lines;
+mod pieces;
 
 use frames::reader::after_from;
 use frames::reader::digits_from;
 use frames::summary::Summary;
+use frames::text::Reading;
 use frames::text::Verdict;
 use frames::text::read;
 use libc::STDOUT_FILENO;
@@ -54,11 +57,8 @@ fn refused(n: u8, line: usize) {
     number(line as u64);
 }
 
-// One case: its name, and what reading the text answers.
-fn case(c: &[u8]) {
-    say(digits_from(c, 0));
-    say(b":");
-    let r = read(text_of(c));
+// What reading a text answers.
+fn answer(r: Reading) {
     let v = r.verdict;
     match v {
         Verdict::Accepted => {
@@ -67,7 +67,15 @@ fn case(c: &[u8]) {
         }
         Verdict::Refused { number: n, line } => refused(n, line),
     }
+}
+
+// One case: its name, and what reading the text answers, as a whole and in pieces.
+fn case(c: &[u8]) {
+    say(digits_from(c, 0));
+    say(b":");
+    answer(read(text_of(c)));
     say(b"\n");
+    pieces::show(text_of(c));
 }
 
 fn first() {
@@ -255,5 +263,6 @@ fn main() {
     unused_bits();
     tenth();
     eleventh();
+    pieces::all();
     lines::all();
 }
