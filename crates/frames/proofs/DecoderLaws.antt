@@ -19,6 +19,7 @@ use Rattle.frames.specs.declared.bytes.Decoding.the-variants.{Bytes, Str
 use Rattle.frames.specs.declared.decoder.Decoder.{Decoder}
 use Rattle.frames.specs.declared.summary.Summary.{Summary}
 use Rattle.frames.specs.Summary.{maxBits, refused, takenOf}
+use Rattle.frames.specs.internal.Alone.{lastAlone}
 use Rattle.frames.specs.internal.Decoded.{decoded}
 use Rattle.frames.proofs.ByteLaws.{both, hexValue-le, all-past, length-bytes, decoded-stray, decoded-long, decoded-bytes}
 
@@ -272,11 +273,8 @@ module _ (s : Bool) (l : List ℕ) (i : ℕ) where
   pub test-past : length l ≤ i → (s || not (all isHex (drop i l))) ≡ s
   test-past h = rw (all-past isHex l i h) (or-false s)
 
--- the last digit where it is alone
-abbrev lastOf : List ℕ → ℕ
-lastOf l = cond (eqb (length l % 2) 1) (digitOf (getD l (length l - 1) 0)) noDigit
-
-last-two : (a b : ℕ) (l : List ℕ) → lastOf l ≡ lastOf (a ∷ b ∷ l)
+last-two : (a b : ℕ) (l : List ℕ) → lastAlone l ≡ lastAlone (a ∷ b ∷ l)
+unfolding lastAlone
 last-two a b [] = refl
 last-two a b (x ∷ l) =
     let two : length (a ∷ b ∷ x ∷ l) % 2 ≡ length (x ∷ l) % 2 = omega arith in
@@ -290,8 +288,8 @@ past-two false = refl
 
 -- at most one digit is left, or there is no room for another byte
 run-rest : (l : List ℕ) (d : Decoder) → d .half ≡ noDigit → (length l ≤ 1) ⊎ (maxBytes ≤ d .count)
-    → run d l ≡ record { stray = d .stray || not (all isHex l); half = lastOf l; count = cond (ltb 1 (length l)) tooMany (d .count); bytes = d .bytes }
-unfolding run all
+    → run d l ≡ record { stray = d .stray || not (all isHex l); half = lastAlone l; count = cond (ltb 1 (length l)) tooMany (d .count); bytes = d .bytes }
+unfolding run all lastAlone
 run-rest [] d even o = ap₂ (λ (s : Bool) (h : ℕ). record { stray = s; half = h; count = d .count; bytes = d .bytes }) (sym (or-false (d .stray))) even
 run-rest (a ∷ []) d even o = single d a even ∙ ap (λ (s : Bool). record { stray = s; half = digitOf a; count = d .count; bytes = d .bytes }) (one-stray (d .stray) (isHex a))
 run-rest (a ∷ b ∷ l) d even (inl h) = absurd (omega arith)
@@ -301,7 +299,7 @@ run-rest (a ∷ b ∷ l) d even (inr h) =
     ∙ same-state (two-stray (d .stray) (isHex a) (isHex b) (all isHex l)) (last-two a b l) (past-two (ltb 1 (length l)) ∙ ap (λ (t : Bool). cond t tooMany (d .count)) (sym (lt-ltb 1 (length (a ∷ b ∷ l)) (omega arith)))))
 
 -- as the code works it out
-pub rest-is : (d : Decoder) (ds : List ℕ) {s : Bool} {h n : ℕ} → d .half ≡ noDigit → (length ds ≤ 1) ⊎ (maxBytes ≤ d .count) → s ≡ not (all isHex ds) → h ≡ lastOf ds → n ≡ cond (ltb 1 (length ds)) tooMany (d .count)
+pub rest-is : (d : Decoder) (ds : List ℕ) {s : Bool} {h n : ℕ} → d .half ≡ noDigit → (length ds ≤ 1) ⊎ (maxBytes ≤ d .count) → s ≡ not (all isHex ds) → h ≡ lastAlone ds → n ≡ cond (ltb 1 (length ds)) tooMany (d .count)
     → record { stray = d .stray || s; half = h; count = n; bytes = d .bytes } ≡ run d ds
 rest-is d ds even o p q r = same-state (ap (λ (x : Bool). d .stray || x) p) q r ∙ sym (run-rest ds d even o)
 

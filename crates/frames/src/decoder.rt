@@ -2,11 +2,12 @@
 ghost use mathlib.Core.Path.{_≡_};
 ghost use mathlib.Core.Bool.{not, cond};
 ghost use mathlib.Core.Logic.{_⊎_};
-ghost use Prim.Native.Nat.{_-_, _*_, _%_, _≤_};
-ghost use lib.Dec.{ltb, eqb};
-ghost use lib.ListN.{length, take, getD};
+ghost use Prim.Native.Nat.{_-_, _*_, _≤_};
+ghost use lib.Dec.{ltb};
+ghost use lib.ListN.{length, take};
 ghost use Rattle.frames.specs.Bytes.{isHex, all, maxBytes};
-ghost use Rattle.frames.specs.Decoder.{noDigit, tooMany, digitOf, start, pushed, run, finished};
+ghost use Rattle.frames.specs.Decoder.{noDigit, tooMany, start, pushed, run, finished};
+ghost use Rattle.frames.specs.internal.Alone.{lastAlone};
 ghost use Rattle.frames.specs.internal.Decoded.{decoded};
 use super::bytes::Decoded;
 use super::bytes::Decoding;
@@ -41,7 +42,7 @@ fn has_stray(digits: &[u8]) -> bool
 
 // The value of the last digit where it is without its second, and 16 where none is.
 fn alone(digits: &[u8]) -> u8
-    ensures { λ r. ⌜ r ≡ cond (eqb (length (now (digits .entry)) % 2) 1) (digitOf (getD (now (digits .entry)) (length (now (digits .entry)) - 1) 0)) noDigit ⌝ }
+    ensures { λ r. ⌜ r ≡ lastAlone (now (digits .entry)) ⌝ }
 {
     let len = digits.len();
     if len % 2 == 1 {
