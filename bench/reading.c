@@ -1,9 +1,11 @@
-/* Reading the longest accepted texts: 64 lines of 255 bytes, 32,704 bytes each. In nine turns the library, an older one if there is one, a pass over the same
-   bytes in C that adds them up, and one in C that decodes them. One line a text, tab-separated, the medians: bytes a second (older library, library, adding up,
-   decoding), and how many times as long as adding up the two libraries take. */
+/* Reading the longest accepted texts: 64 lines of 255 bytes, 32,704 bytes each. In nine turns an older library, if there is one, the library, and three passes
+   over the same bytes in C: one that adds them up one after the other, one that adds them up as the compiler likes, and one that decodes them. One line a text,
+   tab-separated, the medians: bytes a second of these five, and how many times as long as the first pass the older library and the library take, and as the
+   second pass the library. */
 #include "../include/seipolku.h"
 #include <stdio.h>
 #include <stdlib.h>
+#include <string.h>
 #include <time.h>
 
 enum { TURNS = 9, TIMES = 400, LINES = 64, BYTES = 255, LENGTH = LINES * (2 * BYTES + 1) };
@@ -13,7 +15,9 @@ uint64_t before_model(const uint8_t *text, size_t text_len, uint64_t *answer, si
 #endif
 
 typedef struct { const char *name; unsigned char text[LENGTH]; } Text;
-typedef uint64_t Pass(const Text *t);
+typedef uint64_t Pass(const Text *t, uint64_t *answer);
+
+enum { OLDER, LIBRARY, PLAIN, FREE, DECODING, PASSES };
 
 static double now(void) {
     struct timespec t;
@@ -71,25 +75,33 @@ static void put_line(Text *t, int k, int kind) {
     *at = '\n';
 }
 
-static uint64_t by_library(const Text *t) {
-    uint64_t answer[SEIPOLKU_MODEL_WORDS];
+static uint64_t by_library(const Text *t, uint64_t *answer) {
     return seipolku_model(t->text, LENGTH, answer, SEIPOLKU_MODEL_WORDS);
 }
 
-static uint64_t by_older(const Text *t) {
+static uint64_t by_older(const Text *t, uint64_t *answer) {
 #ifdef BEFORE
-    uint64_t answer[SEIPOLKU_MODEL_WORDS];
     return before_model(t->text, LENGTH, answer, SEIPOLKU_MODEL_WORDS);
 #else
-    return t->text[0] & 0;
+    return by_library(t, answer);
 #endif
 }
 
-static uint64_t adding(const Text *t) {
+/* One byte after the other: the empty instruction keeps the compiler from taking several at a time. */
+static uint64_t adding(const Text *t, uint64_t *answer) {
+    uint64_t sum = 0;
+    for (int i = 0; i < LENGTH; i++) {
+        sum += t->text[i];
+        __asm__ volatile("" : "+r"(sum));
+    }
+    return *answer = sum;
+}
+
+static uint64_t adding_freely(const Text *t, uint64_t *answer) {
     uint64_t sum = 0;
     for (int i = 0; i < LENGTH; i++)
         sum += t->text[i];
-    return sum;
+    return *answer = sum;
 }
 
 static unsigned value(unsigned c) {
@@ -97,7 +109,7 @@ static unsigned value(unsigned c) {
 }
 
 /* Tests and decodes, a digit at a time, with no look at what the bytes say. */
-static uint64_t decoding(const Text *t) {
+static uint64_t decoding(const Text *t, uint64_t *answer) {
     unsigned char bytes[BYTES * LINES];
     unsigned high = 0, stray = 0;
     int n = 0, odd = 0;
@@ -112,14 +124,17 @@ static uint64_t decoding(const Text *t) {
         high = v;
         odd = !odd;
     }
-    return stray + bytes[n - 1];
+    *answer = stray;
+    return bytes[n - 1];
 }
 
 static double seconds(Pass *pass, const Text *t) {
     static volatile uint64_t kept;
+    uint64_t answer[SEIPOLKU_MODEL_WORDS] = {0};
     double begun = now();
     for (int i = 0; i < TIMES; i++)
-        kept = pass(t);
+        kept = pass(t, answer);
+    (void)kept;
     return (now() - begun) / TIMES;
 }
 
@@ -128,36 +143,58 @@ static int smaller(const void *a, const void *b) {
     return (x > y) - (x < y);
 }
 
-static void measure(const Text *t) {
-    Pass *const pass[4] = {by_older, by_library, adding, decoding};
-    double s[4][TURNS];
-    if (by_library(t) != SEIPOLKU_ACCEPTED || by_older(t) != SEIPOLKU_ACCEPTED) {
-        printf("%s\tnot accepted\n", t->name);
+/* Both libraries accept the text, and tell the same of its model. */
+static void agree(const Text *t) {
+    uint64_t one[SEIPOLKU_MODEL_WORDS], other[SEIPOLKU_MODEL_WORDS];
+    if (by_library(t, one) != SEIPOLKU_ACCEPTED || by_older(t, other) != SEIPOLKU_ACCEPTED || memcmp(one, other, sizeof one) != 0) {
+        printf("%s\tnot accepted, or not alike\n", t->name);
         exit(1);
     }
+}
+
+static void print_rate(double seconds, int measured) {
+    if (measured)
+        printf("\t%.0f", LENGTH / seconds);
+    else
+        printf("\t-");
+}
+
+static void measure(const Text *t, int older) {
+    Pass *const pass[PASSES] = {by_older, by_library, adding, adding_freely, decoding};
+    double s[PASSES][TURNS], m[PASSES];
+    agree(t);
     for (int turn = 0; turn < TURNS; turn++)
-        for (int k = 0; k < 4; k++)
+        for (int k = 0; k < PASSES; k++)
             s[k][turn] = seconds(pass[k], t);
-    for (int k = 0; k < 4; k++)
+    for (int k = 0; k < PASSES; k++) {
         qsort(s[k], TURNS, sizeof(double), smaller);
-    double m[4] = {s[0][TURNS / 2], s[1][TURNS / 2], s[2][TURNS / 2], s[3][TURNS / 2]};
-#ifdef BEFORE
-    printf("%s\t%.0f\t%.0f\t%.0f\t%.0f\t%.2f\t%.2f\n", t->name, LENGTH / m[0], LENGTH / m[1], LENGTH / m[2], LENGTH / m[3], m[0] / m[2], m[1] / m[2]);
-#else
-    printf("%s\t-\t%.0f\t%.0f\t%.0f\t-\t%.2f\n", t->name, LENGTH / m[1], LENGTH / m[2], LENGTH / m[3], m[1] / m[2]);
-#endif
+        m[k] = s[k][TURNS / 2];
+    }
+    printf("%s", t->name);
+    for (int k = 0; k < PASSES; k++)
+        print_rate(m[k], k != OLDER || older);
+    if (older)
+        printf("\t%.2f", m[OLDER] / m[PLAIN]);
+    else
+        printf("\t-");
+    printf("\t%.2f\t%.2f\n", m[LIBRARY] / m[PLAIN], m[LIBRARY] / m[FREE]);
 }
 
 int main(void) {
-    static Text leaves = {.name = "leaves"}, lists = {.name = "channel lists"}, all = {.name = "all kinds"};
+    static Text leaves = {.name = "leaves"}, lists = {.name = "channel lists"}, both = {.name = "leaves and lists"};
+#ifdef BEFORE
+    const int older = 1;
+#else
+    const int older = 0;
+#endif
     static const int kinds[4] = {1, 3, 5, 6};
     for (int k = 0; k < LINES; k++) {
         put_line(&leaves, k, 1);
         put_line(&lists, k, k % 2 ? 3 : 5);
-        put_line(&all, k, kinds[k % 4]);
+        put_line(&both, k, kinds[k % 4]);
     }
-    measure(&leaves);
-    measure(&lists);
-    measure(&all);
+    measure(&leaves, older);
+    measure(&lists, older);
+    measure(&both, older);
     return 0;
 }

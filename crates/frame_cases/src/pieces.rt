@@ -1,4 +1,4 @@
-// Reads texts in pieces, as they come out of a pipe: the `Reader` finds the lines of a piece, and the `Decoder` goes on with a line that was cut.
+// Reads texts in pieces: the `Reader` finds the lines of a piece, and the `Decoder` goes on with a line that was cut.
 ghost use Prim.Native.Nat.{_≤_, _<_};
 use super::answer;
 use super::case;
@@ -14,8 +14,10 @@ use frames::summary::Summary;
 use frames::text::Reading;
 use frames::text::Verdict;
 
-// No piece here has more lines, with the rest that no 0A ends.
-const MOST: usize = 65;
+const NEWLINE: u8 = 10;
+
+// A piece of at most 64 bytes has no more lines.
+const MOST: usize = 64;
 
 // The lines accepted, the state of the line that goes on, whether it has begun, and the number of the first refusal (0: there is none).
 struct Progress {
@@ -86,6 +88,28 @@ fn read_piece(p: Progress, piece: &[u8]) -> Progress {
     q
 }
 
+// One byte more, without a reader.
+fn read_byte(p: Progress, b: u8) -> Progress {
+    if b == NEWLINE {
+        return end_line(p, b"");
+    }
+    let decoder = p.decoder;
+    let mut q = p;
+    q.decoder = decoder.push(b);
+    q.begun = true;
+    q
+}
+
+fn read_bytes(text: &[u8]) -> Reading {
+    let mut p = begin();
+    for i in 0..text.len() {
+        if p.refusal == 0 {
+            p = read_byte(p, text[i]);
+        }
+    }
+    close(p)
+}
+
 // Where the piece that starts at a place ends.
 fn piece_end(len: usize, at: usize, size: usize) -> usize
     requires { ⌜ (at < len) × (1 ≤ size) ⌝ }
@@ -140,7 +164,7 @@ fn show_size(text: &[u8], size: usize)
     answer(read_pieces(text, size));
 }
 
-// What reading in pieces of so many bytes answers.
+// What reading in pieces of so many bytes answers, and pushing one byte after the other.
 pub fn show(text: &[u8]) {
     say(b"    pieces");
     show_size(text, 1);
@@ -148,6 +172,8 @@ pub fn show(text: &[u8]) {
     show_size(text, 3);
     show_size(text, 7);
     show_size(text, 64);
+    say(b" pushed");
+    answer(read_bytes(text));
     say(b"\n");
 }
 
@@ -187,6 +213,9 @@ fn cut_lines() {
     );
     case(
         b"stray byte before a cut, unended\n000102000201000201000201000201000201000201000201000201000201000x01000201000201000201000201000201000201000201000201000201000201000201",
+    );
+    case(
+        b"high digits before a cut\n000102000201\n010102001100001100001100001100001100001100001100001100001100001100001100001100001100001100001100001100001100001100001100001100001100\n",
     );
     case(
         b"cut line after a good one\n000102000201\n010102000201000201000201000201000201000201000201000201000201000201000201000201000201000201000201000201000201000201000201000201000201\n",

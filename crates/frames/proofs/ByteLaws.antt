@@ -7,10 +7,10 @@ use Prim.Native.Nat.{ℕ, zero, suc, _+_, _-_, _*_, _/_, _%_, _≤_, _<_}
 use native.Mathlib.Nat.{le-refl, not-suc-le-zero}
 use native.Mathlib.Numerals.{add-one}
 use native.Mathlib.Omega.{arith}
-use borrow.Author.Tests.{lt-ltb, le-ltb, le-leb, lt-leb, ltb-true, ltb-false, leb-true, leb-false}
+use borrow.Author.Tests.{le-ltb, le-leb, lt-leb, ltb-true, ltb-false, leb-true, leb-false}
 use lib.Dec.{ltb, leb}
-use lib.ListN.{length, take, drop, getD, set, replicate, length-append, length-replicate, drop-of-length-le}
-use lib.Seq.{drop-cons, take-suc, take-at, set-at, append-snoc, length-take-le}
+use lib.ListN.{length, take, drop, getD, replicate, length-append, length-replicate, drop-of-length-le}
+use lib.Seq.{drop-cons, take-at}
 use Rattle.frames.specs.Bytes.{hexValue, isHex, all, spelt, bytesOf, maxBytes}
 use Rattle.frames.specs.internal.Decoded.{decodingOf, heldBy, decoded}
 use Rattle.frames.specs.declared.bytes.Decoding.{Decoding}

@@ -3,14 +3,14 @@ use mathlib.Core.Path.{_≡_, refl, sym, ap, ap₂, subst, _∙_}
 use mathlib.Core.Logic.{_⊎_, inl, inr}
 use mathlib.Core.Bool.{Bool, true, false, cond, not, _&&_, _||_, or-false}
 use mathlib.Core.List.{List, [], _∷_, _++_}
-use Prim.Native.Nat.{ℕ, zero, suc, _+_, _-_, _*_, _%_, _/_, _≤_, _<_}
+use Prim.Native.Nat.{ℕ, zero, suc, _+_, _-_, _*_, _%_, _/_, _≤_, _<_, min}
 use native.Mathlib.Nat.{add-zero, mod-eq-of-lt}
 use native.Mathlib.Numerals.{add-one}
 use native.Mathlib.Omega.{arith}
-use borrow.Author.Tests.{eq-eqb, ne-eqb, lt-ltb, le-ltb, le-leb, lt-leb, ltb-true, ltb-false, leb-true, leb-false}
+use borrow.Author.Tests.{eq-eqb, ne-eqb, lt-ltb, le-ltb, le-leb, lt-leb, ltb-true, ltb-false, leb-true, leb-false, eqb-true, eqb-false}
 use lib.Dec.{ltb, leb, eqb}
 use lib.ListN.{length, take, drop, getD, set, replicate, take-append-drop, length-drop}
-use lib.Seq.{drop-cons, take-add, take-all, length-take-le, sets, sets-eq}
+use lib.Seq.{drop-cons, take-add, take-all, sets, sets-eq}
 use Rattle.frames.specs.Bytes.{hexValue, isHex, all, spelt, bytesOf, maxBytes}
 use Rattle.frames.specs.Decoder.{noDigit, tooMany, start, digitOf, strayAfter, pushed, run, answered, handed, finished, takenBy, takenState}
 use Rattle.frames.specs.declared.bytes.Decoded.{Decoded}
@@ -144,15 +144,31 @@ run-stray (a ∷ b ∷ l) d even =
     (λ _. run-stray l _ refl ∙ two-stray (d .stray) (isHex a) (isHex b) (all isHex l))
     (λ _. run-stray l _ refl ∙ two-stray (d .stray) (isHex a) (isHex b) (all isHex l))
 
--- a digit waits exactly after an odd number of bytes
-run-half : (l : List ℕ) (d : Decoder) → d .half ≡ noDigit → eqb (run d l .half) noDigit ≡ eqb (length l % 2) 0
+last-two : (a b : ℕ) (l : List ℕ) → lastAlone l ≡ lastAlone (a ∷ b ∷ l)
+unfolding lastAlone
+last-two a b [] = refl
+last-two a b (x ∷ l) =
+    let two : length (a ∷ b ∷ x ∷ l) % 2 ≡ length (x ∷ l) % 2 = omega arith in
+    let p : suc (length l) - 1 ≡ length l = omega arith in
+    let q : suc (suc (suc (length l))) - 1 ≡ suc (suc (length l)) = omega arith in
+    rw (two, p, q)
+
+-- the digit that waits is the last one of an odd number
+run-half : (l : List ℕ) (d : Decoder) → d .half ≡ noDigit → run d l .half ≡ lastAlone l
 unfolding run
-run-half [] d even = eq-eqb (d .half) noDigit even
-run-half (a ∷ []) d even = rw (single d a even) (ne-eqb (digitOf a) noDigit (λ e. omega (arith, digitOf-small a)))
+run-half [] d even = even ∙ (unfold lastAlone in refl)
+run-half (a ∷ []) d even = rw (single d a even) (unfold lastAlone in refl)
 run-half (a ∷ b ∷ l) d even =
-    let two : length (a ∷ b ∷ l) % 2 ≡ length l % 2 = omega arith in
-    rw two
-    (pair d a b even (λ (e : Decoder). eqb (run e l .half) noDigit ≡ eqb (length l % 2) 0) (λ _. run-half l _ refl) (λ _. run-half l _ refl))
+    pair d a b even (λ (e : Decoder). run e l .half ≡ lastAlone (a ∷ b ∷ l)) (λ _. run-half l _ refl ∙ last-two a b l) (λ _. run-half l _ refl ∙ last-two a b l)
+
+-- and none waits after an even number
+last-none : (l : List ℕ) → eqb (lastAlone l) noDigit ≡ eqb (length l % 2) 0
+unfolding lastAlone
+last-none l = go (eqb (length l % 2) 1) refl
+  where
+    go : (b : Bool) → eqb (length l % 2) 1 ≡ b → eqb (cond b (digitOf (getD l (length l - 1) 0)) noDigit) noDigit ≡ eqb (length l % 2) 0
+    go true e = ne-eqb (digitOf (getD l (length l - 1) 0)) noDigit (λ q. omega (arith, digitOf-small (getD l (length l - 1) 0))) ∙ sym (ne-eqb (length l % 2) 0 (λ q. omega (arith, eqb-true (length l % 2) 1 e)))
+    go false e = sym (eq-eqb (length l % 2) 0 (let n = eqb-false (length l % 2) 1 e in omega arith))
 
 -- the count is exact up to 255
 run-count : (l : List ℕ) (d : Decoder) → d .half ≡ noDigit → d .count + length l / 2 ≤ maxBytes → run d l .count ≡ d .count + length l / 2
@@ -182,15 +198,6 @@ run-bytes (a ∷ b ∷ l) d even x h =
     (run-bytes l _ refl z (omega arith) ∙ ap (λ (i : ℕ). sets (set (d .bytes) (d .count) (hexValue a * 16 + hexValue b)) i (bytesOf l)) (add-one (d .count)))
 
 -- ---- for the code: pairs of digits, and what is left of a piece
-
--- after pairs of digits for which there is room no digit waits, and the count is exact
-after-pairs : (d : Decoder) (l : List ℕ) (n : ℕ) → d .half ≡ noDigit → length l ≡ 2 * n → n ≤ maxBytes - d .count → (run d l .half ≡ noDigit) × (run d l .count ≡ d .count + n)
-unfolding run
-after-pairs d [] n even h r = (even, omega arith)
-after-pairs d (a ∷ []) n even h r = absurd (omega arith)
-after-pairs d (a ∷ b ∷ l) n even h r =
-    rw (run, pair-kept d a b even (omega arith))
-    (let (p, q) = after-pairs (kept d a b) l (n - 1) refl (omega arith) (omega arith) in (p, q ∙ omega arith))
 
 -- a piece in two parts
 run-parts : (d : Decoder) (ds : List ℕ) (k : ℕ) → run (run d (take k ds)) (drop k ds) ≡ run d ds
@@ -253,17 +260,6 @@ module _ (d : Decoder) (ds : List ℕ) where
       → record { stray = s; half = noDigit; count = d .count + n; bytes = b } ≡ run d (take (2 * n) ds)
   pairs-end even n i {s} {b} e q = sym (ap (λ (h : ℕ). run (record { stray = d .stray; half = h; count = d .count; bytes = d .bytes }) (take (2 * n) ds)) even ∙ rw (← e) q)
 
-  -- after as many as the digits spell, and as there is room for, no digit waits, and at most one is left or there is no room
-  pub pairs-leave : d .half ≡ noDigit → (n : ℕ) {m : ℕ} {e : Decoder} → m ≡ maxBytes - d .count → (n ≤ length ds / 2) × (n ≤ m) × ((length ds / 2 ≤ n) ⊎ (m ≤ n)) → e ≡ run d (take (2 * n) ds)
-      → (e .half ≡ noDigit) × ((length (take (length ds - 2 * n) (drop (2 * n) ds)) ≤ 1) ⊎ (maxBytes ≤ e .count))
-  pairs-leave even n {m} is (h, k, o) q =
-      let (p, c) = after-pairs d (take (2 * n) ds) n even (length-take-le (2 * n) ds (omega arith)) (omega arith) in
-      rw (q, part-end ds (2 * n)) (p, go o c)
-    where
-      go : (length ds / 2 ≤ n) ⊎ (m ≤ n) → run d (take (2 * n) ds) .count ≡ d .count + n → (length (drop (2 * n) ds) ≤ 1) ⊎ (maxBytes ≤ run d (take (2 * n) ds) .count)
-      go (inl l) c = inl (omega (arith, length-drop (2 * n) ds))
-      go (inr l) c = inr (omega arith)
-
 -- a byte more is tested
 module _ (s : Bool) (l : List ℕ) (i : ℕ) where
   pub test-on : {v : ℕ} → i < length l → v ≡ hexValue (getD l i 0) → (s || not (all isHex (drop i l))) ≡ ((s || eqb v noDigit) || not (all isHex (drop (i + 1) l)))
@@ -272,15 +268,6 @@ module _ (s : Bool) (l : List ℕ) (i : ℕ) where
 
   pub test-past : length l ≤ i → (s || not (all isHex (drop i l))) ≡ s
   test-past h = rw (all-past isHex l i h) (or-false s)
-
-last-two : (a b : ℕ) (l : List ℕ) → lastAlone l ≡ lastAlone (a ∷ b ∷ l)
-unfolding lastAlone
-last-two a b [] = refl
-last-two a b (x ∷ l) =
-    let two : length (a ∷ b ∷ x ∷ l) % 2 ≡ length (x ∷ l) % 2 = omega arith in
-    let p : suc (length l) - 1 ≡ length l = omega arith in
-    let q : suc (suc (suc (length l))) - 1 ≡ suc (suc (length l)) = omega arith in
-    rw (two, p, q)
 
 past-two : (t : Bool) → cond t tooMany tooMany ≡ tooMany
 past-two true = refl
@@ -299,9 +286,22 @@ run-rest (a ∷ b ∷ l) d even (inr h) =
     ∙ same-state (two-stray (d .stray) (isHex a) (isHex b) (all isHex l)) (last-two a b l) (past-two (ltb 1 (length l)) ∙ ap (λ (t : Bool). cond t tooMany (d .count)) (sym (lt-ltb 1 (length (a ∷ b ∷ l)) (omega arith)))))
 
 -- as the code works it out
-pub rest-is : (d : Decoder) (ds : List ℕ) {s : Bool} {h n : ℕ} → d .half ≡ noDigit → (length ds ≤ 1) ⊎ (maxBytes ≤ d .count) → s ≡ not (all isHex ds) → h ≡ lastAlone ds → n ≡ cond (ltb 1 (length ds)) tooMany (d .count)
+rest-is : (d : Decoder) (ds : List ℕ) {s : Bool} {h n : ℕ} → d .half ≡ noDigit → (length ds ≤ 1) ⊎ (maxBytes ≤ d .count) → s ≡ not (all isHex ds) → h ≡ lastAlone ds → n ≡ cond (ltb 1 (length ds)) tooMany (d .count)
     → record { stray = d .stray || s; half = h; count = n; bytes = d .bytes } ≡ run d ds
 rest-is d ds even o p q r = same-state (ap (λ (x : Bool). d .stray || x) p) q r ∙ sym (run-rest ds d even o)
+
+-- as many pairs as the digits have and as there is room for, then what is left
+pub even-is : (d : Decoder) (ds : List ℕ) (n : ℕ) {m : ℕ} {i : ℕ} {s t : Bool} {b : List ℕ} {h c : ℕ} → d .half ≡ noDigit → m ≡ maxBytes - d .count → n ≡ min (length ds / 2) m → i ≡ n
+    → run (record { stray = d .stray; half = noDigit; count = d .count; bytes = d .bytes }) (take (2 * i) ds) ≡ record { stray = s; half = noDigit; count = d .count + i; bytes = b }
+    → t ≡ not (all isHex (take (length ds - 2 * n) (drop (2 * n) ds))) → h ≡ lastAlone (take (length ds - 2 * n) (drop (2 * n) ds)) → c ≡ cond (ltb 1 (length (take (length ds - 2 * n) (drop (2 * n) ds)))) tooMany (d .count + n)
+    → record { stray = s || t; half = h; count = c; bytes = b } ≡ run d ds
+even-is d ds n {m} {i} {s} {t} {b} even is least e q x y z =
+    run-both d ds (2 * n) (pairs-end d ds even n i e q)
+    (rest-is (record { stray = s; half = noDigit; count = d .count + n; bytes = b }) (take (length ds - 2 * n) (drop (2 * n) ds)) refl (go (leb (length ds / 2) m) refl) x y z)
+  where
+    go : (k : Bool) → leb (length ds / 2) m ≡ k → (length (take (length ds - 2 * n) (drop (2 * n) ds)) ≤ 1) ⊎ (maxBytes ≤ d .count + n)
+    go true k = inl (rw (part-end ds (2 * n)) (omega (arith, length-drop (2 * n) ds, leb-true (length ds / 2) m k)))
+    go false k = inr (omega (arith, leb-false (length ds / 2) m k))
 
 -- ---- what a state says of a line that ends there
 
@@ -328,7 +328,7 @@ module _ (d : Decoder) (r : Decoded) (is : r ≡ finished d) where
   unfolding finished
   finished-answer = sym (ap (λ (x : Decoded). x .answer) is)
 
-  -- where it answered n bytes, they are the first n of those handed over
+  -- where it answered n bytes, n is at most 255 and the bytes handed over are the state's
   pub finished-part : (n : ℕ) → r .answer ≡ Bytes n → (n ≤ maxBytes) × (r .bytes ≡ d .bytes)
   unfolding finished handed
   finished-part n e = (short (finished-answer ∙ e), ap (λ (x : Decoded). x .bytes) is ∙ ap (λ (a : Decoding). handed a (d .bytes)) (finished-answer ∙ e))
@@ -343,15 +343,15 @@ module _ (d : Decoder) (r : Decoded) (is : r ≡ finished d) where
 
   -- reading the line, by what it answered
   module _ (s : Summary) where
-    pub state-bytes : (n : ℕ) → r .answer ≡ Bytes n → takenOf maxBits s (take n (r .bytes)) ≡ takenState maxBits s d
+    pub state-bytes : (n : ℕ) → r .answer ≡ Bytes n → takenOf maxBits s (take n (r .bytes)) ≡ takenState s d
     unfolding takenState takenBy
     state-bytes n e = rw (finished-part n e .1, finished-answer ∙ e)
 
-    pub state-stray : r .answer ≡ Stray → refused s 1 ≡ takenState maxBits s d
+    pub state-stray : r .answer ≡ Stray → refused s 1 ≡ takenState s d
     unfolding takenState takenBy
     state-stray e = rw (finished-answer ∙ e)
 
-    pub state-long : r .answer ≡ Long → refused s 2 ≡ takenState maxBits s d
+    pub state-long : r .answer ≡ Long → refused s 2 ≡ takenState s d
     unfolding takenState takenBy
     state-long e = rw (finished-answer ∙ e)
 
@@ -366,19 +366,19 @@ zeros-left (suc m) (suc n) = let e : m - n ≡ suc m - suc n = omega arith in ze
 pub record Leaves (ds : List ℕ) (d : Decoder) : Type 0 where
   -- whether one of its bytes is no digit
   pub stray : d .stray ≡ not (all isHex ds)
-  -- a digit waits exactly where their number is odd
-  pub waits : eqb (d .half) noDigit ≡ eqb (length ds % 2) 0
+  -- the digit that waits: the last one, if their number is odd
+  pub half : d .half ≡ lastAlone ds
   -- the count is exact up to 255, and 256 from there on
   pub exact : length ds / 2 ≤ maxBytes → d .count ≡ length ds / 2
   pub saturated : maxBytes < length ds / 2 → d .count ≡ tooMany
-  -- the bytes that digits spell, with zeros after them
+  -- the bytes that digits spell, with zeros after them (after a stray byte, or past 255 bytes, nothing depends on them)
   pub bytes : all isHex ds ≡ true → length ds / 2 ≤ maxBytes → d .bytes ≡ bytesOf ds ++ replicate (maxBytes - length (bytesOf ds)) 0
 
 pub front-leaves : (ds : List ℕ) → Leaves ds (run start ds)
 unfolding start
 front-leaves ds = record {
   stray = run-stray ds start refl;
-  waits = run-half ds start refl;
+  half = run-half ds start refl;
   exact = λ h. run-count ds start refl (omega arith) ∙ omega arith;
   saturated = λ h. run-past ds start refl (omega arith) (omega arith);
   bytes = λ x h.
@@ -391,7 +391,7 @@ front-leaves ds = record {
 -- the line is turned down exactly where its digits don't spell bytes
 leaves-test : (ds : List ℕ) → turnedDown (run start ds) ≡ not (spelt ds)
 unfolding spelt
-leaves-test ds = let l = front-leaves ds in ap₂ (λ (x y : Bool). x || not y) (l .stray) (l .waits) ∙ or-not false (all isHex ds) (eqb (length ds % 2) 0)
+leaves-test ds = let l = front-leaves ds in ap₂ (λ (x y : Bool). x || not y) (l .stray) (ap (λ (h : ℕ). eqb h noDigit) (l .half) ∙ last-none ds) ∙ or-not false (all isHex ds) (eqb (length ds % 2) 0)
 
 hex-spelt : (ds : List ℕ) → spelt ds ≡ true → all isHex ds ≡ true
 unfolding spelt

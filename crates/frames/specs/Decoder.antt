@@ -6,7 +6,7 @@ use mathlib.Core.List.{List, [], _∷_}
 use lib.Dec.{ltb, leb, eqb}
 use lib.ListN.{take, set, replicate}
 use Rattle.frames.specs.Bytes.{hexValue, isHex, maxBytes}
-use Rattle.frames.specs.Summary.{refused, takenOf}
+use Rattle.frames.specs.Summary.{maxBits, refused, takenOf}
 use Rattle.frames.specs.declared.bytes.Decoding.{Decoding}
 use Rattle.frames.specs.declared.bytes.Decoding.the-variants.{Bytes, Stray, Long}
 use Rattle.frames.specs.declared.bytes.Decoded.{Decoded}
@@ -33,7 +33,8 @@ digitOf c = hexValue c % 16
 unfoldable pub strayAfter : Decoder → ℕ → Bool
 strayAfter d c = d .stray || not (isHex c)
 
--- One byte more. A first digit waits for its second; the two spell a byte, which is kept while there is room.
+-- One byte more. A first digit waits for its second; the two spell a byte, which is kept while there is room. The remainder matters only where `half`
+-- is above 16, which no reading leaves.
 unfoldable pub pushed : Decoder → ℕ → Decoder
 pushed d c =
     cond (eqb (d .half) noDigit)
@@ -66,11 +67,11 @@ unfoldable pub finished : Decoder → Decoded
 finished d = record { answer = answered d; bytes = handed (answered d) (d .bytes) }
 
 -- refusal 1 for a stray byte or a digit alone, refusal 2 for more than 255 bytes, else what the bytes give
-unfoldable pub takenBy : ℕ → Summary → Decoding → List ℕ → Taken
-takenBy most s (Bytes n) b = takenOf most s (take n b)
-takenBy most s Stray b = refused s 1
-takenBy most s Long b = refused s 2
+unfoldable pub takenBy : Summary → Decoding → List ℕ → Taken
+takenBy s (Bytes n) b = takenOf maxBits s (take n b)
+takenBy s Stray b = refused s 1
+takenBy s Long b = refused s 2
 
 -- Reading a line from the state that its bytes left, after the lines that the summary tells of.
-unfoldable pub takenState : ℕ → Summary → Decoder → Taken
-takenState most s d = takenBy most s (answered d) (d .bytes)
+unfoldable pub takenState : Summary → Decoder → Taken
+takenState s d = takenBy s (answered d) (d .bytes)

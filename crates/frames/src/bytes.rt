@@ -21,7 +21,7 @@ pub struct Decoded {
 // The value of a byte that is no digit.
 pub const NO_DIGIT: u8 = 16;
 
-// The value of a digit 0-9 A-F, and 16 for any other byte. No jump depends on the byte, so that many can be worked on at once.
+// The value of a digit 0-9 A-F, and 16 for any other byte. One comparison tells each range, so that the compiler can do without jumps.
 pub fn hex_value(c: u8) -> u8
     ensures { λ r. ⌜ r ≡ hexValue c ⌝ }
 {

@@ -1,10 +1,8 @@
 // A line's digits, tested and decoded in one pass, a piece at a time.
 ghost use mathlib.Core.Path.{_≡_};
 ghost use mathlib.Core.Bool.{not, cond};
-ghost use mathlib.Core.Logic.{_⊎_};
-ghost use Prim.Native.Nat.{_-_, _*_, _≤_};
+ghost use Prim.Native.Nat.{_-_, min};
 ghost use lib.Dec.{ltb};
-ghost use lib.ListN.{length, take};
 ghost use Rattle.frames.specs.Bytes.{isHex, all, maxBytes};
 ghost use Rattle.frames.specs.Decoder.{noDigit, tooMany, start, pushed, run, finished};
 ghost use Rattle.frames.specs.internal.Alone.{lastAlone};
@@ -19,7 +17,7 @@ use super::bytes::hex_value;
 const TOO_MANY: usize = 256;
 
 // All that is kept of the bytes read so far: whether one was no digit, the digit that waits for its second (16: none does), how many bytes were
-// spelt (256: more than 255), and these, with zeros after them.
+// spelt (256: more than 255), and the first 255 of these, a stray byte read as a 0, with zeros after them.
 pub struct Decoder {
     pub stray: bool,
     pub half: u8,
@@ -27,7 +25,7 @@ pub struct Decoder {
     pub bytes: [u8; 255],
 }
 
-// Whether a byte is no digit.
+// Whether any byte is no digit.
 fn has_stray(digits: &[u8]) -> bool
     ensures { λ r. ⌜ r ≡ not (all isHex (now (digits .entry))) ⌝ }
 {
@@ -71,8 +69,8 @@ fn room_for(count: usize) -> usize
     0
 }
 
-fn least(a: usize, b: usize) -> usize
-    ensures { λ r. ⌜ (r ≤ a) × (r ≤ b) × ((a ≤ r) ⊎ (b ≤ r)) ⌝ }
+fn smaller(a: usize, b: usize) -> usize
+    ensures { λ r. ⌜ r ≡ min a b ⌝ }
 {
     if a < b { a } else { b }
 }
@@ -91,7 +89,7 @@ impl Decoder {
         }
     }
 
-    // One byte more.
+    // One byte more. The remainder matters only where `half` is above 16, which no reading leaves.
     pub fn push(self, c: u8) -> Decoder
         ensures { λ r. ⌜ r ≡ pushed self c ⌝ }
     {
@@ -115,12 +113,14 @@ impl Decoder {
         r
     }
 
-    // The first 2 · n digits, where no digit waits and there is room for n bytes.
-    fn pairs(self, digits: &[u8], n: usize) -> Decoder
-        requires { ⌜ (self .half ≡ noDigit) × (2 * n ≤ length (now digits)) × (n ≤ maxBytes - self .count) ⌝ }
-        ensures { λ r. ⌜ r ≡ run self (take (2 * n) (now (digits .entry))) ⌝ }
+    // Digits where no digit waits: pairs of them while there is room for their bytes, then what is left, which is one digit at most or has no room.
+    fn run_even(self, digits: &[u8]) -> Decoder
+        requires { ⌜ self .half ≡ noDigit ⌝ }
+        ensures { λ r. ⌜ r ≡ run self (now (digits .entry)) ⌝ }
     {
+        let len = digits.len();
         let count = self.count;
+        let n = smaller(len / 2, room_for(count));
         let mut stray = self.stray;
         let mut bytes = self.bytes;
         let mut i = 0;
@@ -131,38 +131,13 @@ impl Decoder {
             bytes[count + i] = high % 16 * 16 + low % 16;
             i += 1;
         }
+        let left = &digits[2 * n..len];
         Decoder {
-            stray,
-            half: NO_DIGIT,
-            count: count + n,
+            stray: stray | has_stray(left),
+            half: alone(left),
+            count: past_room(count + n, left.len()),
             bytes,
         }
-    }
-
-    // Digits where no digit waits, and they are at most one or there is no room for another byte.
-    fn rest(self, digits: &[u8]) -> Decoder
-        requires { ⌜ (self .half ≡ noDigit) × ((length (now digits) ≤ 1) ⊎ (maxBytes ≤ self .count)) ⌝ }
-        ensures { λ r. ⌜ r ≡ run self (now (digits .entry)) ⌝ }
-    {
-        let count = self.count;
-        let bytes = self.bytes;
-        Decoder {
-            stray: self.stray | has_stray(digits),
-            half: alone(digits),
-            count: past_room(count, digits.len()),
-            bytes,
-        }
-    }
-
-    // Digits where no digit waits: as many bytes as there is room for, then what is left.
-    fn run_even(self, digits: &[u8]) -> Decoder
-        requires { ⌜ self .half ≡ noDigit ⌝ }
-        ensures { λ r. ⌜ r ≡ run self (now (digits .entry)) ⌝ }
-    {
-        let len = digits.len();
-        let n = least(len / 2, room_for(self.count));
-        let d = self.pairs(digits, n);
-        d.rest(&digits[2 * n..len])
     }
 
     // A piece of the line more, of any length.

@@ -6,6 +6,10 @@ use lib.ListN.{length, take, drop}
 use Rattle.frames.specs.Line.{Line, line, lineLength, stateAt, placeAfter}
 use Rattle.frames.specs.declared.line.Cut.{Cut}
 
+-- So many bytes are looked at together where the end of a line is looked for.
+abbrev pub block : ℕ
+block = 16
+
 -- the line that a text starts with
 unfoldable pub firstLine : List ℕ → Line
 firstLine t = line (take (lineLength t) t) (ltb (lineLength t) (length t))

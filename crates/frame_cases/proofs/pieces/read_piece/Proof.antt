@@ -5,10 +5,10 @@ use Rattle.frame_cases.proofs.pieces.read_piece.Statement.{statement}
 use Rattle.frame_cases.proofs.pieces.read_piece.Tie as tie
 
 abbrev Inv-loop : tie.InvT-loop
-Inv-loop piece q₀ at₀ k₀ q at k = k ≤ 65
+Inv-loop piece q₀ at₀ k₀ q at k = k ≤ 64
 
 abbrev μ-loop : tie.MeasureT-loop
-μ-loop piece q₀ at₀ k₀ q at k = 65 - k
+μ-loop piece q₀ at₀ k₀ q at k = 64 - k
 
 loop-holds : tie.Need-loop-holds Inv-loop μ-loop
 loop-holds c = search needs
