@@ -25,7 +25,7 @@ static double now(void) {
     return (double)t.tv_sec + 1e-9 * (double)t.tv_nsec;
 }
 
-/* Numbers that look drawn, the same in each run. */
+/* Pseudo-random numbers, the same in each run. */
 static unsigned drawn(unsigned below) {
     static uint64_t x = 88172645463325252u;
     x ^= x << 13;

@@ -368,7 +368,7 @@ pub record Leaves (ds : List ℕ) (d : Decoder) : Type 0 where
   pub stray : d .stray ≡ not (all isHex ds)
   -- the digit that waits: the last one, if their number is odd
   pub half : d .half ≡ lastAlone ds
-  -- the count is exact up to 255, and 256 from there on
+  -- the count is exact up to 255, and 256 above that
   pub exact : length ds / 2 ≤ maxBytes → d .count ≡ length ds / 2
   pub saturated : maxBytes < length ds / 2 → d .count ≡ tooMany
   -- the bytes that digits spell, with zeros after them (after a stray byte, or past 255 bytes, nothing depends on them)

@@ -33,8 +33,8 @@ digitOf c = hexValue c % 16
 unfoldable pub strayAfter : Decoder → ℕ → Bool
 strayAfter d c = d .stray || not (isHex c)
 
--- One byte more. A first digit waits for its second; the two spell a byte, which is kept while there is room. The remainder matters only where `half`
--- is above 16, which no reading leaves.
+-- One byte more. A first digit waits for its second; the two spell a byte, which is kept while there is room. The remainder by 256 matters only where
+-- `half` is above 16, which no reading leaves.
 unfoldable pub pushed : Decoder → ℕ → Decoder
 pushed d c =
     cond (eqb (d .half) noDigit)

@@ -89,7 +89,7 @@ impl Decoder {
         }
     }
 
-    // One byte more. The remainder matters only where `half` is above 16, which no reading leaves.
+    // One byte more. The remainder by 256 matters only where `half` is above 16, which no reading leaves.
     pub fn push(self, c: u8) -> Decoder
         ensures { λ r. ⌜ r ≡ pushed self c ⌝ }
     {
