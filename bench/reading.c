@@ -35,7 +35,7 @@ static unsigned drawn(unsigned below) {
 }
 
 static unsigned any_action(void) {
-    unsigned a = drawn(63);
+    unsigned a = drawn(62);
     return a ? a + 1 : 0;
 }
 
@@ -54,7 +54,7 @@ static void over_channels(unsigned char *b, int kind) {
     b[1] = (unsigned char)kind;
     b[2] = 0;
     for (int i = 3; i < BYTES; i++)
-        b[i] = (unsigned char)(1 + drawn(31));
+        b[i] = (unsigned char)(1 + drawn(30));
     if (kind == 6)
         b[3] = 0;
 }

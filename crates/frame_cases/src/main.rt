@@ -196,6 +196,29 @@ fn eighth() {
     case(b"joint channel 0\n000102000201\n0106000000\n");
 }
 
+fn termination() {
+    case(b"action 61\n000102003D01\n");
+    case(b"action 62\n000102003E01\n");
+    case(b"action 63 in the second triple\n000102003E01003F01\n");
+    case(b"action 63 in an unused line\n000102003F01\n010101\n");
+    case(b"states 31, 62 and 63\n0001403E023F1F003E\n");
+    case(b"restrict channel 30\n000102003E01\n0103001E\n");
+    case(b"hide channel 30\n000102003E01\n0105001E\n");
+    case(b"joint channel 30\n000102003E01\n010600001E\n");
+    case(b"relabel 30 to 30\n000102003E01\n0104001E1E\n");
+}
+
+fn termination_listed() {
+    case(b"restrict channels 1, 31 and 2\n000102003E01\n010300011F02\n");
+    case(b"hide channel 31\n000102003E01\n0105001F\n");
+    case(b"hide channels 1 and 31\n000102003E01\n010500011F\n");
+    case(b"joint channel 31\n000102003E01\n010600001F\n");
+    case(b"joint channels 1 and 31\n000102003E01\n01060000011F\n");
+    case(b"relabel from 31\n000102003E01\n0104001F01\n");
+    case(b"relabel to 31\n000102003E01\n010400011F\n");
+    case(b"relabel 31 to 31\n000102003E01\n0104001F1F\n");
+}
+
 fn ninth() {
     case(b"operand of itself\n000102000201\n01020001\n");
     case(b"operand of the first line\n00020000\n");
@@ -258,6 +281,8 @@ fn main() {
     sixth();
     seventh();
     eighth();
+    termination();
+    termination_listed();
     ninth();
     bits();
     unused_bits();

@@ -149,13 +149,51 @@ fn relabelled() {
 }
 
 fn hidden_and_joint() {
-    show(b"hide", b"000102000201010300000400010001\n010500011F\n", 2);
+    show(b"hide", b"000102000201010300000400010001\n010500011E\n", 2);
     show(
         b"joint",
         b"000102000201010400000300\n010103000201010202000500020000\n0206000101\n",
         8,
     );
     show(b"joint on nothing", b"000102000201\n01060000\n", 4);
+}
+
+fn terminated() {
+    show(b"exit", b"000102003E01\n", 2);
+    show(
+        b"joint: both exit",
+        b"000102003E01\n010102003E01\n02060001\n",
+        4,
+    );
+    show(
+        b"joint: one side can't exit",
+        b"000102003E01\n010102000201\n02060001\n",
+        4,
+    );
+    show(
+        b"joint: listed, then exit",
+        b"000103000201013E02\n0106000001\n",
+        16,
+    );
+    show(b"compose: exits pass", b"000102003E01\n01020000\n", 4);
+}
+
+fn terminated_under() {
+    show(
+        b"restrict, relabel and hide of exit",
+        b"000104000201013E02020403\n01030002\n0204010103\n03050203\n",
+        4,
+    );
+    show(
+        b"joint of a composition that exits twice",
+        b"000102003E01\n01020000\n02060100\n",
+        8,
+    );
+    show(
+        b"compose of joints that exit",
+        b"000102003E01\n01060000\n02020100\n",
+        8,
+    );
 }
 
 fn nested() {
@@ -182,5 +220,7 @@ fn main() {
     restricted();
     relabelled();
     hidden_and_joint();
+    terminated();
+    terminated_under();
     nested();
 }
