@@ -168,6 +168,18 @@ mod tests {
     }
 
     #[test]
+    fn steps_are_read_from_their_text() {
+        let words = |text: &str| rerun(&format!("4\tname\tsteps\ttext={text}\t")).map(|rerun| rerun.got);
+        let exit = words("000102003E01/");
+        assert_eq!(exit.as_deref(), Some("codes 0,1 | may 0.62.1 | must 0.62.1"));
+        let three = words("000103000201020001/");
+        assert_eq!(three.as_deref(), Some("codes 0,1,2 | may 0.2.1 2.0.1 | must 0.2.1 2.0.1"));
+        assert_eq!(words("000101/").as_deref(), Some("codes 0 | may | must"));
+        assert_eq!(words("000102003F01/"), None);
+        assert!(rerun("4\tname\tsteps\tleft=000101/\t").is_none());
+    }
+
+    #[test]
     fn runs_of_the_program_are_read_from_their_files() {
         let printed = |files: &str| rerun(&format!("2\tname\tprogram\t{files}\t")).map(|rerun| rerun.got);
         assert_eq!(printed("left=-\tright=").as_deref(), Some("no input left/"));

@@ -101,7 +101,9 @@ fn set_value(random: &mut Random, bytes: &mut [u8]) {
     let Some(place) = place(random, bytes.len().saturating_sub(1)) else { return };
     let start = bytes[..place].iter().rposition(|&b| b == b'\n').map_or(0, |end| end + 1);
     let place = place - (place - start) % 2;
-    let value = random.pick(&[0u8, 1, 2, 3, 6, 7, 20, 31, 32, 62, 63, 64, 65, 127, 128, 254, 255]);
+    let value = random.pick(&[
+        0u8, 1, 2, 3, 6, 7, 20, 30, 30, 31, 31, 31, 32, 62, 62, 63, 63, 63, 64, 65, 127, 128, 254, 255,
+    ]);
     let digits = format!("{value:02X}");
     bytes[place..place + 2].copy_from_slice(digits.as_bytes());
 }
