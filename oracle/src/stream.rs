@@ -143,17 +143,20 @@ impl<W: Write> Stream<W> {
         let mut random = Random::of_case(seed, number);
         let pair = Pair::new(text.to_vec(), text.to_vec());
         let call = calls::fitting(&mut random, &pair);
-        self.shown_pair(number, &mut random, &pair, &call)
+        match self.shown_pair(number, &mut random, &pair, &call)? {
+            true => Ok(()),
+            false => Err(io::Error::other(format!("line {number} has too large a model for look-ups"))),
+        }
     }
 
-    /// A comparison and the look-ups after it.
-    fn shown_pair(&mut self, case: u64, random: &mut Random, pair: &Pair, call: &Call) -> io::Result<()> {
+    /// A comparison and the look-ups after it; whether there are any.
+    fn shown_pair(&mut self, case: u64, random: &mut Random, pair: &Pair, call: &Call) -> io::Result<bool> {
         self.pair(case, &pair.left, &pair.right)?;
         let answer = call.expected(&pair.known);
         self.call(random, call, answer)?;
         match answer.and_then(|answer| Shown::new(pair, answer)) {
-            Some(shown) => self.show(random, &shown),
-            None => Ok(()),
+            Some(shown) => self.show(random, &shown).map(|()| true),
+            None => Ok(false),
         }
     }
 
