@@ -1,7 +1,7 @@
 //! Generated models, malformed texts and comparisons.
 
 use crate::answer::{Answer, MAX_TABLE};
-use crate::model::{width, MAX_BITS, MAX_USES};
+use crate::model::{width, EXIT, EXIT_CHANNEL, MAX_BITS, MAX_USES, MOST_CHANNEL, TAU};
 use crate::random::Random;
 use crate::vectors::Case;
 
@@ -16,6 +16,9 @@ const JOINT: u8 = 6;
 
 pub const LIMIT: u64 = 1_000_000;
 pub const LENGTH: usize = 1 << 16;
+
+/// The other direction of exit's channel, which is no action.
+const NO_ACTION: u8 = EXIT + 1;
 
 /// What `MAX_BITS` was before document 02's point 1: models and look-ups about this end are tried too.
 pub const FORMER_BITS: u32 = 20;
@@ -58,10 +61,10 @@ pub fn wide(random: &mut Random, bits: u32) -> Vec<Frame> {
     builder.frames
 }
 
-/// Mostly the first channels, at times any.
+/// Mostly the first channels, at times the last or any.
 fn channel(random: &mut Random) -> u8 {
-    let any = 1 + random.below(31) as u8;
-    random.pick(&[1, 2, 3, 1, 2, 3, 31, any])
+    let any = 1 + random.below(MOST_CHANNEL.into()) as u8;
+    random.pick(&[1, 2, 3, 1, 2, 3, MOST_CHANNEL, any])
 }
 
 struct Builder<'a> {
@@ -69,21 +72,42 @@ struct Builder<'a> {
     palette: Vec<u8>,
     /// Whether most steps are τ steps.
     quiet: bool,
+    /// Whether some leaves have exit steps, and whether this one has.
+    exits: bool,
+    leaf_exits: bool,
     budget: u32,
     frames: Vec<Frame>,
+    /// The bits and the leaf uses of each line.
     bits: Vec<u32>,
+    uses: Vec<u32>,
 }
 
 impl<'a> Builder<'a> {
     fn new(random: &'a mut Random, budget: u32) -> Self {
         let palette: Vec<u8> = (0..1 + random.below(3)).map(|_| channel(random)).collect();
-        let quiet = random.once_in(4);
-        Builder { random, palette, quiet, budget, frames: vec![], bits: vec![] }
+        let (quiet, exits) = (random.once_in(4), !random.once_in(4));
+        Builder {
+            random,
+            palette,
+            quiet,
+            exits,
+            leaf_exits: false,
+            budget,
+            frames: vec![],
+            bits: vec![],
+            uses: vec![],
+        }
     }
 
     /// Adds a line with this frame but for its number, which is returned.
     fn add(&mut self, body: Frame, bits: u32) -> usize {
         let number = self.frames.len();
+        let uses = |place: usize| self.uses[usize::from(body[place])];
+        self.uses.push(match body[0] {
+            LEAF => 1,
+            COMPOSE | JOINT => uses(1) + uses(2),
+            _ => uses(1),
+        });
         self.frames.push([vec![number as u8], body].concat());
         self.bits.push(bits);
         number
@@ -108,7 +132,7 @@ impl<'a> Builder<'a> {
         let any = 1 + self.random.below(most.min(6) as usize) as u32;
         let bits = self.random.pick(&[1, 1, any]);
         let states = (1 << (bits - 1)) + 1 + self.random.below(1 << (bits - 1)) as u8;
-        let mut body = vec![LEAF, states];
+        let mut body = self.new_leaf(states);
         for _ in 0..self.random.pick(triples) {
             body.extend(self.triple(states));
         }
@@ -119,7 +143,7 @@ impl<'a> Builder<'a> {
         let any = 1 + self.random.below(64) as u8;
         let wide = if self.random.once_in(16) { any } else { 2 };
         let states: u8 = self.random.pick(&[1, 1, 2, 2, 3, 3, 4, 5, wide]);
-        let mut body = vec![LEAF, states];
+        let mut body = self.new_leaf(states);
         if self.random.once_in(4) {
             body.extend(self.chain(states));
         }
@@ -129,20 +153,32 @@ impl<'a> Builder<'a> {
         (body, width(states))
     }
 
-    /// A step from each state to the next one, which makes differences show late.
-    fn chain(&mut self, states: u8) -> Vec<u8> {
-        (1..states).flat_map(|to| [to - 1, self.triple(states)[1], to]).collect()
+    /// A leaf without triples; in a model with exits one leaf in four will have none, so that at times one side exits alone.
+    fn new_leaf(&mut self, states: u8) -> Frame {
+        self.leaf_exits = self.exits && !self.random.once_in(4);
+        vec![LEAF, states]
     }
 
-    /// About one triple in three is a τ step, in a quiet model two in three.
+    /// A step from each state to the next one, which makes differences show late.
+    fn chain(&mut self, states: u8) -> Vec<u8> {
+        (1..states).flat_map(|to| [to - 1, self.action(), to]).collect()
+    }
+
     fn triple(&mut self, states: u8) -> [u8; 3] {
         let any = self.random.below(states.into()) as u8;
         let from = self.random.pick(&[0, any, any]);
         let to = self.random.below(states.into()) as u8;
+        [from, self.action(), to]
+    }
+
+    /// In a leaf with exits one action in three is one. Of the others about one in three is τ, in a quiet model two in three.
+    fn action(&mut self) -> u8 {
+        if self.leaf_exits && self.random.once_in(3) {
+            return EXIT;
+        }
         let channel = self.random.pick(&self.palette);
         let visible = self.random.pick(&[2 * channel, 2 * channel + 1]);
-        let action = self.random.pick(&[0, visible, if self.quiet { 0 } else { visible }]);
-        [from, action, to]
+        self.random.pick(&[TAU, visible, if self.quiet { TAU } else { visible }])
     }
 
     /// Mostly the newest line, so that operators nest.
@@ -157,7 +193,8 @@ impl<'a> Builder<'a> {
         let any = self.random.below(self.frames.len());
         let j = self.random.pick(&[i, any, any, any]);
         let (i, j) = if self.random.once_in(2) { (i, j) } else { (j, i) };
-        (self.bits[i] + self.bits[j] <= self.budget).then_some((i, j))
+        let fit = self.bits[i] + self.bits[j] <= self.budget && self.uses[i] + self.uses[j] <= MAX_USES;
+        fit.then_some((i, j))
     }
 
     fn binary(&mut self, kind: u8, i: usize, j: usize) -> (Frame, u32) {
@@ -263,7 +300,7 @@ pub fn wide_pair(random: &mut Random) -> (Vec<Frame>, Vec<Frame>) {
 /// A chain of steps and one that is shorter, closed or the same: verdicts after many rounds.
 pub fn chain_pair(random: &mut Random) -> (Vec<Frame>, Vec<Frame>) {
     let states = 6 + random.below(20) as u8;
-    let action = random.pick(&[0, 2, 3, 2, 3, 63]);
+    let action = random.pick(&[TAU, 2, 3, 2, 3, EXIT]);
     let mut chain: Frame = vec![0, LEAF, states];
     chain.extend((1..states).flat_map(|to| [to - 1, action, to]));
     let mut other = chain.clone();
@@ -334,7 +371,7 @@ pub fn case(random: &mut Random) -> Case {
 /// A text made from an accepted one so that a refusal 1 to 6 is likely due, or of random bytes.
 pub fn malformed(random: &mut Random) -> Vec<u8> {
     let frames = model(random, 6);
-    match random.below(12) {
+    match random.below(14) {
         0 | 1 => stray_bytes(random, text(&frames)),
         2 => cut(random, text(&frames)),
         3 => text(&resized(random, frames)),
@@ -344,6 +381,7 @@ pub fn malformed(random: &mut Random) -> Vec<u8> {
         7 => text(&wrong_length(random, frames)),
         8 | 9 => text(&changed_byte(random, frames)),
         10 => text(&too_large(random)),
+        11 | 12 => text(&misused_exit(random, frames)),
         _ => random_bytes(random),
     }
 }
@@ -405,7 +443,29 @@ fn wrong_length(random: &mut Random, mut frames: Vec<Frame>) -> Vec<Frame> {
 fn changed_byte(random: &mut Random, mut frames: Vec<Frame>) -> Vec<Frame> {
     let place = random.below(frames.len());
     let index = random.below(frames[place].len() - 2) + 2;
-    frames[place][index] = random.pick(&[0, 1, 2, 5, 31, 32, 63, 64, 65, 255]);
+    frames[place][index] = random.pick(&[0, 1, 2, 5, 30, 31, 31, 32, 62, 63, 63, 64, 65, 255]);
+    frames
+}
+
+/// Exit as if it were any channel's output: a step of its input, or its channel in a relabelling or anywhere in a list.
+/// A composition becomes a joint on it.
+fn misused_exit(random: &mut Random, mut frames: Vec<Frame>) -> Vec<Frame> {
+    let place = random.below(frames.len());
+    let frame = &mut frames[place];
+    match frame[1] {
+        LEAF if frame.len() > 3 => {
+            let triple = random.below((frame.len() - 3) / 3);
+            frame[3 * triple + 4] = NO_ACTION;
+        }
+        LEAF => frame.extend([0, NO_ACTION, 0]),
+        RELABEL => frame[3 + random.below(2)] = EXIT_CHANNEL,
+        kind => {
+            let list = if matches!(kind, COMPOSE | JOINT) { 4 } else { 3 };
+            let position = list + random.below(frame.len() - list + 1);
+            frame.insert(position, EXIT_CHANNEL);
+            frame[1] = if kind == COMPOSE { JOINT } else { kind };
+        }
+    }
     frames
 }
 

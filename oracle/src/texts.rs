@@ -1,7 +1,7 @@
 //! Texts of every sort for the reader: accepted ones, malformed ones, and mutations of both.
 
 use crate::generate::{malformed, model, text, wide, Frame, WIDE};
-use crate::model::MAX_BITS;
+use crate::model::{EXIT, MAX_BITS};
 use crate::random::Random;
 
 /// A frame of the greatest length, 255 bytes: a leaf with 84 triples.
@@ -49,7 +49,8 @@ fn longest(random: &mut Random) -> Vec<u8> {
 fn long_leaf(random: &mut Random, number: u8, triples: usize) -> Frame {
     let mut frame = vec![number, 1, 64];
     for _ in 0..triples {
-        let action = random.below(63) as u8;
+        // Every action: 0 and from 2 up to exit.
+        let action = random.below(EXIT.into()) as u8;
         frame.extend([random.below(64) as u8, action + u8::from(action > 0), random.below(64) as u8]);
     }
     frame
@@ -100,7 +101,9 @@ fn set_value(random: &mut Random, bytes: &mut [u8]) {
     let Some(place) = place(random, bytes.len().saturating_sub(1)) else { return };
     let start = bytes[..place].iter().rposition(|&b| b == b'\n').map_or(0, |end| end + 1);
     let place = place - (place - start) % 2;
-    let value = random.pick(&[0u8, 1, 2, 3, 6, 7, 20, 31, 32, 62, 63, 64, 65, 127, 128, 254, 255]);
+    let value = random.pick(&[
+        0u8, 1, 2, 3, 6, 7, 20, 30, 30, 31, 31, 31, 32, 62, 62, 63, 63, 63, 64, 65, 127, 128, 254, 255,
+    ]);
     let digits = format!("{value:02X}");
     bytes[place..place + 2].copy_from_slice(digits.as_bytes());
 }

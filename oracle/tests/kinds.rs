@@ -1,15 +1,16 @@
 //! The short comparison run has every sort of model and of call.
 
-use std::collections::BTreeSet;
+use std::collections::{BTreeMap, BTreeSet};
 
 use oracle::answer::{table_fits, Answer, Known, MAX_TABLE, WORDS};
 use oracle::bisim::Outcome;
 use oracle::calls::{any_pair, calls, shown, Call, Pair};
 use oracle::generate::{FORMER_BITS, WIDE};
 use oracle::lookup::{codes, last_level, look_up, Ask};
-use oracle::model::{Channels, Line, Model, Process, MAX_BITS, TAU};
+use oracle::model::{Channels, Line, Model, Process, EXIT, EXIT_CHANNEL, MAX_BITS, TAU};
 use oracle::random::Random;
 use oracle::reader::{read, Refusal};
+use oracle::steps::{derive, System};
 use oracle::tables::{any_ask, any_table, Table};
 use oracle::texts::any_text;
 
@@ -99,6 +100,125 @@ fn every_sort_of_model_comes_up() {
     let seen: BTreeSet<_> =
         pairs().filter_map(|(pair, _)| read(&pair.left).ok()).flat_map(|model| sorts(&model)).collect();
     assert_eq!(seen.len(), 13, "{seen:?}");
+}
+
+/// The system of the first lines of a model, the last of which is this one; none if it is large.
+fn system(model: &Model, line: usize) -> Option<System> {
+    let first = Model { lines: model.lines[..=line].to_vec() };
+    (first.last().bits() <= 8).then(|| derive(&first)).flatten()
+}
+
+fn exits(system: &System) -> bool {
+    system.steps.iter().any(|step| step.action == EXIT)
+}
+
+/// Whether a step of exit can come up from the start.
+fn exits_from_start(System { steps, .. }: &System) -> bool {
+    let mut reached = BTreeSet::from([0]);
+    loop {
+        let before = reached.len();
+        let next: Vec<u32> = steps.iter().filter(|s| reached.contains(&s.from)).map(|s| s.to).collect();
+        reached.extend(next);
+        if reached.len() == before {
+            return steps.iter().any(|step| step.action == EXIT && reached.contains(&step.from));
+        }
+    }
+}
+
+const OPERATORS: [&str; 5] = ["compose", "restrict", "relabel", "hide", "joint"];
+
+/// An operator's kind, that of an operand whose steps have an exit, and whether all its operands' have one.
+type Over = (&'static str, &'static str, bool);
+
+fn over_exits(model: &Model, line: &Line) -> Vec<Over> {
+    let operands = line.process.operands();
+    let exiting = |&&operand: &&usize| system(model, operand).is_some_and(|system| exits(&system));
+    let exiting: Vec<_> = operands.iter().filter(exiting).collect();
+    let all = exiting.len() == operands.len();
+    exiting.into_iter().map(|&operand| (kind(line), kind(&model.lines[operand]), all)).collect()
+}
+
+/// Over each kind whose steps have an exit stands every operator, compose and joint also so that only one side exits.
+#[test]
+fn exits_come_up_below_every_operator() {
+    let mut seen: BTreeMap<Over, u64> = BTreeMap::new();
+    for (pair, _) in pairs() {
+        let Ok(model) = read(&pair.left) else { continue };
+        let found: BTreeSet<_> =
+            used_lines(&model).into_iter().flat_map(|line| over_exits(&model, line)).collect();
+        for over in found {
+            *seen.entry(over).or_default() += 1;
+        }
+    }
+    let below = ["leaf"].into_iter().chain(OPERATORS);
+    let all = below.clone().flat_map(|below| OPERATORS.map(|above| (above, below, true)));
+    let one = below.flat_map(|below| ["compose", "joint"].map(|above| (above, below, false)));
+    let rare: Vec<_> = all.chain(one).filter(|over| seen.get(over).is_none_or(|&count| count < 3)).collect();
+    assert!(rare.is_empty(), "{rare:?} {seen:?}");
+}
+
+/// In many models exit can come up from the start, also where a joint has to take it on both sides.
+#[test]
+fn exits_come_up_from_the_start() {
+    let (mut models, mut some, mut reached, mut joint) = (0, 0, 0, 0);
+    for (pair, _) in pairs() {
+        let Ok(model) = read(&pair.left) else { continue };
+        let last = model.lines.len() - 1;
+        let Some(whole) = system(&model, last) else { continue };
+        models += 1;
+        some += u64::from(exits(&whole));
+        reached += u64::from(exits_from_start(&whole));
+        joint += u64::from(kind(model.last()) == "joint" && exits_from_start(&whole));
+    }
+    let counts = (models, some, reached, joint);
+    assert!(some > models / 4 && reached > models / 4 && joint > models / 50, "{counts:?}");
+}
+
+/// The bytes of a line; none if it has other characters than digits.
+fn frame(line: &[u8]) -> Option<Vec<u8>> {
+    let digits = std::str::from_utf8(line.strip_suffix(b"\n")?).ok()?;
+    (0..digits.len()).step_by(2).map(|at| u8::from_str_radix(digits.get(at..at + 2)?, 16).ok()).collect()
+}
+
+/// The places of a leaf's actions or of another frame's channels, and the value about exit that is wrong there.
+fn places(frame: &[u8]) -> (Vec<usize>, u8) {
+    let (first, every, wrong) = match frame[1] {
+        1 => (4, 3, EXIT + 1),
+        6 => (4, 1, EXIT_CHANNEL),
+        _ => (3, 1, EXIT_CHANNEL),
+    };
+    ((first..frame.len()).step_by(every).collect(), wrong)
+}
+
+/// The kind of a line that refusal 5 is due of for one value about exit alone, and where that stands.
+fn misuse(text: &[u8]) -> Option<(u8, &'static str)> {
+    let Err(Refusal { number: 5, line }) = read(text) else { return None };
+    let mut lines: Vec<Vec<u8>> = text.split_inclusive(|&b| b == b'\n').map(<[u8]>::to_vec).collect();
+    let frame = frame(&lines[line])?;
+    let (places, wrong) = places(&frame);
+    let index = places.iter().position(|&place| frame[place] == wrong)?;
+    // With the largest value that may stand there the line is accepted.
+    let digits = 2 * places[index]..2 * places[index] + 2;
+    lines[line][digits].copy_from_slice(format!("{:02X}", wrong - 1).as_bytes());
+    let position = match index {
+        0 => "first",
+        _ if index + 1 == places.len() => "last",
+        _ => "between",
+    };
+    read(&lines[..=line].concat()).is_ok().then_some((frame[1], position))
+}
+
+#[test]
+fn every_misuse_of_exit_comes_up() {
+    let lists = [1, 3, 5, 6].into_iter().flat_map(|kind| ["first", "between", "last"].map(|at| (kind, at)));
+    let wanted: BTreeSet<_> = lists.chain([(4, "first"), (4, "last")]).collect();
+    let texts = (0..4 * CASES).map(|case| any_text(&mut Random::of_case(SEED, case)));
+    let seen: BTreeSet<_> = texts.filter_map(|text| misuse(&text)).collect();
+    assert_eq!(seen, wanted);
+    let sides =
+        |pair: &Pair| [misuse(&pair.left), misuse(&pair.right)].into_iter().flatten().collect::<Vec<_>>();
+    let seen: BTreeSet<_> = pairs().flat_map(|(pair, _)| sides(&pair)).collect();
+    assert_eq!(seen, wanted);
 }
 
 #[test]

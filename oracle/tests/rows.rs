@@ -1,8 +1,8 @@
-//! Rows P1 to P10 of document 01 and single points of its text.
+//! Rows P1 to P10 of document 01 and single points of its text and of document 02's point 4.
 
 use oracle::answer::MAX_TABLE;
 use oracle::bisim::Mode;
-use oracle::model::Model;
+use oracle::model::{Model, TAU};
 use oracle::reader::{read, Refusal};
 use oracle::steps::Step;
 use oracle::{compare, largest, steps, Answer};
@@ -81,7 +81,7 @@ fn p6_challenges_of_both_sides() {
 fn p7_to_p10_operators() {
     assert_eq!(fits(P7, LIMIT, 574), "strong equal 2 | weak equal 1 | 574");
     assert_eq!(fits(P8, LIMIT, 300), "strong equal 2 | weak equal 1 | 300");
-    assert_eq!(fits(P9, LIMIT, 642), "strong equal 2 | weak equal 2 | 642");
+    assert_eq!(fits(P9, LIMIT, 649), "strong equal 2 | weak equal 2 | 649");
     assert_eq!(fits(P10, LIMIT, 373), "strong equal 2 | weak equal 2 | 373");
 }
 
@@ -201,4 +201,134 @@ fn large_models_are_not_enumerated() {
     let row = "000140/01020000/02020100";
     assert_eq!(steps(&model(row)), None);
     assert!(answer_at((row, row), LIMIT, MAX_TABLE).starts_with("strong equal 1 | weak equal 1 | "));
+}
+
+/// Exit and then nothing.
+const EXITS: &str = "000102003E01";
+
+#[test]
+fn exit_of_a_joint_takes_both_sides() {
+    assert_eq!(derived(&format!("{EXITS}/010102003E01/02060001")), vec![(0, 62, 3)]);
+    assert_eq!(derived("000103000201013E02/0106000001"), vec![(0, 2, 5), (5, 62, 10)]);
+    // One side alone, whatever the list; beside it others may step, and τ too.
+    assert_eq!(derived(&format!("{EXITS}/010101/02060001")), vec![]);
+    assert_eq!(derived(&format!("{EXITS}/010102000201/0206000101")), vec![]);
+    assert_eq!(derived(&format!("{EXITS}/010102000201/02060001")), vec![(0, 2, 2), (1, 2, 3)]);
+    assert_eq!(derived(&format!("{EXITS}/010102000001/02060100")), vec![(0, 0, 1), (2, 0, 3)]);
+}
+
+#[test]
+fn exits_of_a_composition_are_steps_of_their_own() {
+    let separate = vec![(0, 62, 1), (0, 62, 2), (1, 62, 3), (2, 62, 3)];
+    assert_eq!(derived(&format!("{EXITS}/01020000")), separate);
+    // Not with any output or input, of the last channel either.
+    let beside = |action: u8| derived(&format!("{EXITS}/01010200{action:02X}01/02020001"));
+    for action in (2..=61).chain([TAU]) {
+        let expected = vec![(0, action, 2), (0, 62, 1), (1, action, 3), (2, 62, 3)];
+        assert_eq!(beside(action), expected);
+    }
+}
+
+#[test]
+fn exit_passes_what_names_channels() {
+    let all: String = (1..=30).map(|channel| format!("{channel:02X}")).collect();
+    let lists = [format!("010300{all}"), format!("010500{all}")];
+    let relabellings = ["0104000102", "0104001E1E", "010400011E"].map(String::from);
+    for line in lists.iter().chain(&relabellings) {
+        assert_eq!(derived(&format!("{EXITS}/{line}")), vec![(0, 62, 1)], "{line}");
+    }
+    assert_eq!(derived(&format!("{EXITS}/01060000{all}")), vec![(0, 62, 3)]);
+}
+
+#[test]
+fn exits_of_nested_operators() {
+    // A composition within a joint: the third exits with either of the two.
+    let in_joint = derived(&format!("{EXITS}/01020000/02060100"));
+    assert_eq!(in_joint, vec![(0, 62, 5), (0, 62, 6), (1, 62, 7), (2, 62, 7)]);
+    // A joint within a composition: the two together, the third alone.
+    let in_compose = derived(&format!("{EXITS}/01060000/02020100"));
+    assert_eq!(in_compose, vec![(0, 62, 3), (0, 62, 4), (1, 62, 5), (2, 62, 6), (3, 62, 7), (4, 62, 7)]);
+    // Three by joints, below a hiding, a relabelling and a restriction.
+    let below = "03050201/0404030203/05030403";
+    assert_eq!(derived(&format!("{EXITS}/01060000/02060100/{below}")), vec![(0, 62, 7)]);
+}
+
+#[test]
+fn exit_is_visible() {
+    let later = "000103000001013E02";
+    assert_eq!(answer((later, EXITS)), "strong different 1 | weak equal 3 | 1019");
+    assert_eq!(answer((EXITS, "000101")), "strong different 1 | weak different 1 | 119");
+    // Neither τ nor an action of a channel stands for it.
+    let others = (2..=61).chain([TAU]);
+    for other in others.map(|action| format!("00010200{action:02X}01")) {
+        assert!(answer((EXITS, &other)).starts_with("strong different 1 | weak different 1 | "), "{other}");
+    }
+}
+
+#[test]
+fn a_joint_may_end_where_a_composition_goes_on() {
+    let joint = format!("{EXITS}/01060000");
+    let compose = format!("{EXITS}/01020000");
+    let interleaved = "000104003E01003E02013E03023E03";
+    let at = |left: &str, right: &str| answer_at((left, right), LIMIT, MAX_TABLE);
+    assert!(at(&joint, EXITS).starts_with("strong equal 2 | weak equal 2 | "));
+    assert!(at(&compose, interleaved).starts_with("strong equal 3 | weak equal 3 | "));
+    assert!(at(&joint, &compose).starts_with("strong different 2 | weak different 2 | "));
+    let alone = format!("{EXITS}/010101/02060001");
+    assert!(at(&alone, "000101").starts_with("strong equal 1 | weak equal 1 | "));
+}
+
+/// The refusal of a row, as number and line.
+fn refusal(row: &str) -> Option<(u8, usize)> {
+    read(&text(row)).err().map(|Refusal { number, line }| (number, line))
+}
+
+#[test]
+fn exit_has_no_input_in_a_leaf() {
+    for row in ["000102003E01", "000102003E01003E01003E00", "000140003E3F", "000102003C01003D01"] {
+        assert_eq!(refusal(row), None, "{row}");
+    }
+    for row in ["000102003F01", "000102003F01000201", "000102000201003F01000201", "000102003E01003F00"] {
+        assert_eq!(refusal(row), Some((5, 0)), "{row}");
+        assert_eq!(refusal(&format!("{EXITS}/01{}", &row[2..])), Some((5, 1)), "{row}");
+    }
+}
+
+#[test]
+fn no_list_and_no_relabelling_names_exit() {
+    let head = "000102003E01000201/01020000";
+    let places = [
+        "03011F",
+        "03011F01",
+        "030101021F",
+        "03011E1F01",
+        "05011F",
+        "05011F1E",
+        "0501011F02",
+        "050101021F",
+        "0600011F",
+        "0600011F01",
+        "0600011E1F02",
+        "060001011F",
+        "04011F01",
+        "0401011F",
+        "04011F1F",
+    ];
+    for place in places {
+        assert_eq!(refusal(&format!("{head}/02{place}")), Some((5, 2)), "{place}");
+        // The last channel that a list names stands in the same place.
+        assert_eq!(refusal(&format!("{head}/02{}", place.replace("1F", "1E"))), None, "{place}");
+    }
+}
+
+#[test]
+fn refusals_before_and_after_that_of_exit() {
+    // A length that does not fit the kind comes first; bits and uses come after.
+    assert_eq!(refusal("000102003F0100"), Some((4, 0)));
+    assert_eq!(refusal(&format!("{EXITS}/0104001F")), Some((4, 1)));
+    assert_eq!(refusal(&format!("{EXITS}/0104001F0101")), Some((4, 1)));
+    let widest = "000140/01020000/02020101/030102003E01";
+    assert_eq!(refusal(&format!("{widest}/0406020301")), Some((6, 4)));
+    assert_eq!(refusal(&format!("{widest}/040602031F")), Some((5, 4)));
+    assert_eq!(refusal("000102003F01/010"), Some((5, 0)));
 }
