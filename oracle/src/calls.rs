@@ -115,7 +115,7 @@ pub fn shown(random: &mut Random) -> (Pair, Call) {
 }
 
 /// The call without a limit on a table that the list just fits.
-fn fitting(random: &mut Random, pair: &Pair) -> Call {
+pub fn fitting(random: &mut Random, pair: &Pair) -> Call {
     let length = pair.needed() + 2;
     let words = random.pick(&[WORDS, WORDS, WORDS, WORDS + 1, WORDS + 3, 2 * WORDS]);
     Call { limit: u64::MAX, table: [length; 3], work: work(random, length), words }

@@ -1,7 +1,7 @@
 //! Generated models, malformed texts and comparisons.
 
 use crate::answer::{Answer, MAX_TABLE};
-use crate::model::{width, MAX_BITS, MAX_USES};
+use crate::model::{width, EXIT, MAX_BITS, MAX_USES, MOST_CHANNEL, TAU};
 use crate::random::Random;
 use crate::vectors::Case;
 
@@ -60,8 +60,8 @@ pub fn wide(random: &mut Random, bits: u32) -> Vec<Frame> {
 
 /// Mostly the first channels, at times any.
 fn channel(random: &mut Random) -> u8 {
-    let any = 1 + random.below(31) as u8;
-    random.pick(&[1, 2, 3, 1, 2, 3, 31, any])
+    let any = 1 + random.below(MOST_CHANNEL.into()) as u8;
+    random.pick(&[1, 2, 3, 1, 2, 3, MOST_CHANNEL, any])
 }
 
 struct Builder<'a> {
@@ -263,7 +263,7 @@ pub fn wide_pair(random: &mut Random) -> (Vec<Frame>, Vec<Frame>) {
 /// A chain of steps and one that is shorter, closed or the same: verdicts after many rounds.
 pub fn chain_pair(random: &mut Random) -> (Vec<Frame>, Vec<Frame>) {
     let states = 6 + random.below(20) as u8;
-    let action = random.pick(&[0, 2, 3, 2, 3, 63]);
+    let action = random.pick(&[TAU, 2, 3, 2, 3, EXIT]);
     let mut chain: Frame = vec![0, LEAF, states];
     chain.extend((1..states).flat_map(|to| [to - 1, action, to]));
     let mut other = chain.clone();

@@ -1,18 +1,27 @@
 //! Accepted models.
 
 pub const TAU: u8 = 0;
+/// The termination event (ISO 8807's δ): the only action of its channel, which no list and no relabelling names.
+pub const EXIT: u8 = 62;
+pub const EXIT_CHANNEL: u8 = 31;
+/// Lists and relabellings name the channels from 1 up to this one.
+pub const MOST_CHANNEL: u8 = 30;
 pub const MAX_LINES: usize = 64;
 /// The most bits of a line's process; codes and levels of a look-up end with it.
 pub const MAX_BITS: u32 = 24;
 pub const MAX_USES: u32 = 64;
 
-/// A set of channels 1 to 31, one bit a channel.
+/// A set of channels, one bit a channel: those that a list names, and in the formula of joint also exit's.
 #[derive(Clone, Copy, Debug, Default, PartialEq, Eq)]
 pub struct Channels(pub u32);
 
 impl Channels {
     pub fn single(channel: u8) -> Self {
         Channels(1 << channel)
+    }
+
+    pub fn with(self, channel: u8) -> Self {
+        Channels(self.0 | 1 << channel)
     }
 
     /// τ lies on no channel: it would be channel 0, which no list holds.

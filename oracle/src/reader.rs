@@ -1,6 +1,8 @@
 //! Text to model, or the refusal that is due.
 
-use crate::model::{Channels, Line, Model, Process, Triple, MAX_BITS, MAX_LINES, MAX_USES};
+use crate::model::{
+    Channels, Line, Model, Process, Triple, EXIT, MAX_BITS, MAX_LINES, MAX_USES, MOST_CHANNEL, TAU,
+};
 
 /// Refusal 1 to 6 with its line.
 #[derive(Clone, Copy, Debug, PartialEq, Eq)]
@@ -107,8 +109,13 @@ fn leaf(states: u8, rest: &[u8]) -> Option<Process> {
 
 fn triple(states: u8, bytes: &[u8]) -> Option<Triple> {
     let (from, action, to) = (bytes[0], bytes[1], bytes[2]);
-    let fits = from < states && to < states && action <= 63 && action != 1;
+    let fits = from < states && to < states && is_action(action);
     fits.then_some(Triple { from, action, to })
+}
+
+/// τ, exit, or an output or input on a channel that lists may name.
+fn is_action(byte: u8) -> bool {
+    byte == TAU || byte == EXIT || channel(byte / 2).is_some()
 }
 
 fn operand(byte: u8, line: usize) -> Option<usize> {
@@ -116,7 +123,7 @@ fn operand(byte: u8, line: usize) -> Option<usize> {
 }
 
 fn channel(byte: u8) -> Option<u8> {
-    Some(byte).filter(|c| (1..=31).contains(c))
+    Some(byte).filter(|c| (1..=MOST_CHANNEL).contains(c))
 }
 
 fn channels(bytes: &[u8]) -> Option<Channels> {

@@ -5,7 +5,10 @@ use std::collections::BTreeMap;
 use std::str::FromStr;
 
 use crate::lookup::{look_up, Ask};
+use crate::model::Model;
 use crate::program::Files;
+use crate::reader::read;
+use crate::steps::{derive, Step};
 use crate::tables::{Entry, Table};
 use crate::vectors::{escape_lines, unescape, Case, Rerun};
 
@@ -13,6 +16,8 @@ use crate::vectors::{escape_lines, unescape, Case, Rerun};
 pub enum Call {
     Compare(Case),
     LookUp(Table, Ask),
+    /// The codes and the derived steps of an accepted text.
+    Steps(Vec<u8>),
     /// A run of the program; its lines stand in the answer, `/` for their ends.
     Program(Files),
 }
@@ -34,6 +39,7 @@ pub fn parse(line: &str) -> Option<Request> {
     let call = match *call {
         "compare" => Call::Compare(arguments.case()?),
         "lookup" => Call::LookUp(arguments.table()?, arguments.ask()?),
+        "steps" => Call::Steps(unescape(arguments.0.get("text")?)?),
         "program" => Call::Program(Files { left: arguments.file("left")?, right: arguments.file("right")? }),
         _ => return None,
     };
@@ -48,11 +54,22 @@ pub fn rerun(line: &str) -> Option<Rerun> {
         Call::LookUp(table, ask) => {
             Rerun { name, expected, got: words(look_up(&table.slices(), &ask)), explicit: false }
         }
+        Call::Steps(text) => Rerun { name, expected, got: steps(&read(&text).ok()?)?, explicit: false },
         Call::Program(files) => {
             let (printed, explicit) = files.run();
             Rerun { name, expected, got: escape_lines(&printed), explicit }
         }
     })
+}
+
+/// A model's codes, and its steps as those that it may and those that it must have: the same ones, since every leaf is a
+/// plain one. None if the model is too large.
+pub fn steps(model: &Model) -> Option<String> {
+    let system = derive(model)?;
+    let codes: Vec<String> = system.states.iter().map(u32::to_string).collect();
+    let step = |Step { from, action, to }: &Step| format!(" {from}.{action}.{to}");
+    let steps: String = system.steps.iter().map(step).collect();
+    Some(format!("codes {} | may{steps} | must{steps}", codes.join(",")))
 }
 
 fn words(looked_up: u64) -> String {

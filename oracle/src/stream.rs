@@ -76,12 +76,7 @@ impl<W: Write> Stream<W> {
     pub fn shown(&mut self, cases: Cases) -> io::Result<()> {
         for (case, mut random) in cases.each() {
             let (pair, call) = calls::shown(&mut random);
-            self.pair(case, &pair.left, &pair.right)?;
-            let answer = call.expected(&pair.known);
-            self.call(&mut random, &call, answer)?;
-            if let Some(shown) = answer.and_then(|answer| Shown::new(&pair, answer)) {
-                self.show(&mut random, &shown)?;
-            }
+            self.shown_pair(case, &mut random, &pair, &call)?;
         }
         self.end()
     }
@@ -115,6 +110,7 @@ impl<W: Write> Stream<W> {
             let request = requests::parse(line).ok_or_else(|| malformed(number))?;
             match &request.call {
                 requests::Call::Compare(case) => self.case(number, seed, case, &request.expected)?,
+                requests::Call::Steps(text) => self.steps(number, seed, text, &request.expected)?,
                 requests::Call::Program(files) => self.program(number, seed, files, &request.expected)?,
                 requests::Call::LookUp(table, ask) => {
                     let value = requests::looked_up(&request.expected).ok_or_else(|| malformed(number))?;
@@ -136,6 +132,29 @@ impl<W: Write> Stream<W> {
             )));
         }
         self.case(number, seed, &case, &answer.to_string())
+    }
+
+    /// The comparison of a text with itself, after which every step is looked up.
+    fn steps(&mut self, number: u64, seed: u64, text: &[u8], expected: &str) -> io::Result<()> {
+        let model = read(text).map_err(|_| malformed(number))?;
+        if requests::steps(&model).as_deref() != Some(expected) {
+            return Err(io::Error::other(format!("line {number} does not give the model's steps")));
+        }
+        let mut random = Random::of_case(seed, number);
+        let pair = Pair::new(text.to_vec(), text.to_vec());
+        let call = calls::fitting(&mut random, &pair);
+        self.shown_pair(number, &mut random, &pair, &call)
+    }
+
+    /// A comparison and the look-ups after it.
+    fn shown_pair(&mut self, case: u64, random: &mut Random, pair: &Pair, call: &Call) -> io::Result<()> {
+        self.pair(case, &pair.left, &pair.right)?;
+        let answer = call.expected(&pair.known);
+        self.call(random, call, answer)?;
+        match answer.and_then(|answer| Shown::new(pair, answer)) {
+            Some(shown) => self.show(random, &shown),
+            None => Ok(()),
+        }
     }
 
     /// A stored comparison.

@@ -1,7 +1,7 @@
 //! Texts of every sort for the reader: accepted ones, malformed ones, and mutations of both.
 
 use crate::generate::{malformed, model, text, wide, Frame, WIDE};
-use crate::model::MAX_BITS;
+use crate::model::{EXIT, MAX_BITS};
 use crate::random::Random;
 
 /// A frame of the greatest length, 255 bytes: a leaf with 84 triples.
@@ -49,7 +49,8 @@ fn longest(random: &mut Random) -> Vec<u8> {
 fn long_leaf(random: &mut Random, number: u8, triples: usize) -> Frame {
     let mut frame = vec![number, 1, 64];
     for _ in 0..triples {
-        let action = random.below(63) as u8;
+        // Every action: 0 and from 2 up to exit.
+        let action = random.below(EXIT.into()) as u8;
         frame.extend([random.below(64) as u8, action + u8::from(action > 0), random.below(64) as u8]);
     }
     frame
