@@ -697,6 +697,7 @@ def shuttle():
     pair("shuttle1", "shuttle1_faulty", "different", "different")
     pair("shuttle2", "shuttle1_service", "different", "different")
     shuttle_of_cells(family)
+    parked_drive(family)
     last_move(family)
     shuttle_that_ends(family)
     family.finish()
@@ -789,6 +790,21 @@ def shuttle_of_cells(family):
 
 
 # Phases of the shuttle that end by exit.
+
+def parked_drive(family):
+    """The drive can only exit, and the journal has a move to flush before it exits."""
+    flushes = [("new", "flush!", "flushed"), ("flushed", EXIT, "over")]
+    service = single_leaf(family, "shuttle_parked_service", flushes)
+
+    def both(join, name):
+        model = Model(family)
+        join(model, model.leaf("journal", flushes), model.leaf("drive", [("parked", EXIT, "over")]))
+        return model.save(name)
+
+    joined = both(lambda model, journal, drive: model.joint(journal, drive, []), "shuttle_parked")
+    pair(joined, service, "equal", "equal")
+    pair(both(Model.compose, "shuttle_parked_composed"), service, "different", "different")
+
 
 def last_move(family):
     """The drive carries the last move out while the journal writes it down: each ends by exit."""
