@@ -529,12 +529,12 @@ def exit_alone(family):
     two = single_leaf(family, "lotos_exit_twice", [("exits", EXIT, "exits again"), ("exits again", EXIT, "stop")])
 
     model = Model(family)
-    leaf = model.leaf("exit", [EXITS])
+    leaf = model.leaf("phase", [EXITS])
     model.joint(leaf, leaf, [])
     pair(model.save("lotos_exit_joined"), one, "equal", "equal")
 
     model = Model(family)
-    leaf = model.leaf("exit", [EXITS])
+    leaf = model.leaf("phase", [EXITS])
     model.compose(leaf, leaf)
     pair(model.save("lotos_exit_composed"), two, "equal", "equal")
     pair("lotos_exit_composed", one, "different", "different")
