@@ -167,6 +167,11 @@ def counter(places, up, down):
     return steps
 
 
+def beside(model, one, other):
+    """||| of LOTOS: only exit is taken together."""
+    return model.joint(one, other, [])
+
+
 def side_by_side(one, other):
     """Steps of two leaves, each taken alone; the states are pairs."""
     def states(steps):
@@ -476,16 +481,16 @@ def data_and_term(family):
     model.hide(model.joint(ending, term, ["halt", "DisInd"]), ["halt"])
     pair(model.save("lotos_data_term_gate"), flat, "different", "equal")
 
-    model = Model(family)
-    model.joint(model.leaf("data", DATA), model.leaf("term", TERM + [EXITS]), [])
-    beside = model.save("lotos_data_beside_term")
-    pair(beside, flat, "different", "different")
-    stops = single_leaf(family, "lotos_data_beside_stop", side_by_side(DATA, TERM))
-    pair(beside, stops, "equal", "equal")
+    def both(join, name):
+        model = Model(family)
+        join(model, model.leaf("data", DATA), model.leaf("term", TERM + [EXITS]))
+        return model.save(name)
 
-    model = Model(family)
-    model.compose(model.leaf("data", DATA), model.leaf("term", TERM + [EXITS]))
-    pair(model.save("lotos_data_term_composed"), beside, "different", "different")
+    apart = both(beside, "lotos_data_beside_term")
+    pair(apart, flat, "different", "different")
+    stops = single_leaf(family, "lotos_data_beside_stop", side_by_side(DATA, TERM))
+    pair(apart, stops, "equal", "equal")
+    pair(both(Model.compose, "lotos_data_term_composed"), apart, "different", "different")
 
 
 def whole_handler(family):
@@ -528,15 +533,14 @@ def exit_alone(family):
     one = single_leaf(family, "lotos_exit", [EXITS])
     two = single_leaf(family, "lotos_exit_twice", [("exits", EXIT, "exits again"), ("exits again", EXIT, "stop")])
 
-    model = Model(family)
-    leaf = model.leaf("phase", [EXITS])
-    model.joint(leaf, leaf, [])
-    pair(model.save("lotos_exit_joined"), one, "equal", "equal")
+    def both(join, name):
+        model = Model(family)
+        phase = model.leaf("phase", [EXITS])
+        join(model, phase, phase)
+        return model.save(name)
 
-    model = Model(family)
-    leaf = model.leaf("phase", [EXITS])
-    model.compose(leaf, leaf)
-    pair(model.save("lotos_exit_composed"), two, "equal", "equal")
+    pair(both(beside, "lotos_exit_joined"), one, "equal", "equal")
+    pair(both(Model.compose, "lotos_exit_composed"), two, "equal", "equal")
     pair("lotos_exit_composed", one, "different", "different")
 
 
@@ -552,24 +556,23 @@ def term_phase(family):
 
 def two_term_phases(family):
     """Term_Phase of two connections, each with gates of its own."""
-    def both(joined):
+    def both(join):
         model = Model(family)
         term = model.leaf("term", TERM + [EXITS])
-        second = model.relabel(term, DisReq="DisReq2", DisInd="DisInd2")
-        return model, model.joint(term, second, []) if joined else model.compose(term, second)
+        return model, join(model, term, model.relabel(term, DisReq="DisReq2", DisInd="DisInd2"))
 
-    def hidden(joined, name):
-        model, whole = both(joined)
+    def hidden(join, name):
+        model, whole = both(join)
         model.hide(whole, ["DisReq", "DisInd", "DisReq2", "DisInd2"])
         return model.save(name)
 
     second = [(source, word.replace("!", "2!"), target) for source, word, target in TERM]
     steps = side_by_side(TERM, second) + [("exits, exits", EXIT, "stop")]
     service = single_leaf(family, "lotos_two_terms_service", steps)
-    pair(both(True)[0].save("lotos_two_terms"), service, "equal", "equal")
-    pair(both(False)[0].save("lotos_two_terms_composed"), service, "different", "different")
-    pair(hidden(True, "lotos_two_terms_hidden"), "lotos_exit", "different", "equal")
-    pair(hidden(False, "lotos_two_terms_composed_hidden"), "lotos_exit_twice", "different", "equal")
+    pair(both(beside)[0].save("lotos_two_terms"), service, "equal", "equal")
+    pair(both(Model.compose)[0].save("lotos_two_terms_composed"), service, "different", "different")
+    pair(hidden(beside, "lotos_two_terms_hidden"), "lotos_exit", "different", "equal")
+    pair(hidden(Model.compose, "lotos_two_terms_composed_hidden"), "lotos_exit_twice", "different", "equal")
 
 
 # Two handlers of document 000, one of which calls the other through a provider; each of the three ends by exit.
@@ -801,8 +804,7 @@ def parked_drive(family):
         join(model, model.leaf("journal", flushes), model.leaf("drive", [("parked", EXIT, "over")]))
         return model.save(name)
 
-    joined = both(lambda model, journal, drive: model.joint(journal, drive, []), "shuttle_parked")
-    pair(joined, service, "equal", "equal")
+    pair(both(beside, "shuttle_parked"), service, "equal", "equal")
     pair(both(Model.compose, "shuttle_parked_composed"), service, "different", "different")
 
 
