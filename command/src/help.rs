@@ -132,9 +132,9 @@ Turns each Aldebaran file X.aut into a model text X.hex of one leaf, and a table
 and not read. All files given together get one numbering of channels, so that they can be compared. The table also has a digest of X.aut,
 so that an outdated X.hex is known.
 
-Labels, with or without quotes: i or tau is an internal step; exit is the termination event of LOTOS; NAME! or !NAME is an output, NAME?
-or ?NAME an input; NAME alone is a gate, that is, an output that is written back without the mark. A first state other than 0 changes places
-with state 0. A leaf has at most 64 states and 84 transitions, and all files together have at most 30 names.
+Labels, with or without quotes: i or tau is an internal step; exit is the termination event of LOTOS; NAME! or !NAME is an output,
+NAME? or ?NAME an input; NAME alone is a gate, that is, an output that is written back without the mark. A first state other than 0
+changes places with state 0. A leaf has at most 64 states and 84 transitions, and all files together have at most 30 names.
 
   --into FOLDER   write the files there, not beside the .aut files.
   --names TABLE   take channel numbers from this table of names first.
