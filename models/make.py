@@ -12,6 +12,9 @@ import sys
 HERE = os.path.dirname(os.path.abspath(__file__))
 ORACLE = os.path.join(HERE, "..", "oracle", "target", "release", "oracle")
 TAU = "tau"
+EXIT = "exit"    # the termination event of LOTOS: no channel, and without a direction
+WITHOUT_CHANNEL = {TAU: 0, EXIT: 62}
+LAST_CHANNEL = 30
 LIMIT = 1_000_000
 PROGRAM_TABLE = 4096
 LARGEST_TABLE = 1 << 20
@@ -28,21 +31,22 @@ refusals = []    # (name, text, right, line): in this line the text gets more th
 class Family:
     """A group of models with one numbering of channels."""
 
-    def __init__(self, title, gates=False):
+    def __init__(self, title, gates=False, channels=""):
+        """`channels` get the first numbers, in this order; the others follow as they are met."""
         self.title = title
         self.gates = gates    # all actions are outputs, written without a direction
-        self.numbers = {}
+        self.numbers = {name: number for number, name in enumerate(channels.split(), 1)}
         names.append(f"\n## {title}\n")
 
     def channel(self, name):
         number = self.numbers.setdefault(name, len(self.numbers) + 1)
-        assert number <= 31, name
+        assert number <= LAST_CHANNEL and name not in WITHOUT_CHANNEL, name
         return number
 
     def action(self, word):
         """`a!` is output and `a?` input on channel a."""
-        if word == TAU:
-            return 0
+        if word in WITHOUT_CHANNEL:
+            return WITHOUT_CHANNEL[word]
         return 2 * self.channel(word[:-1]) + {"!": 0, "?": 1}[word[-1]]
 
     def finish(self):
@@ -119,7 +123,7 @@ class Model:
         return name
 
     def channels(self):
-        """The channels that the frames name, as a .names file has them."""
+        """The channels that the frames name, as a .names file has them; exit needs no name."""
         used = set()
         for _, kind, *operands in self.frames:
             if kind == 1:
@@ -161,6 +165,20 @@ def counter(places, up, down):
     for n in range(places):
         steps += [(f"n{n}", up, f"n{n + 1}"), (f"n{n + 1}", down, f"n{n}")]
     return steps
+
+
+def beside(model, one, other):
+    """||| of LOTOS: only exit is taken together."""
+    return model.joint(one, other, [])
+
+
+def side_by_side(one, other):
+    """Steps of two leaves, each taken alone; the states are pairs."""
+    def states(steps):
+        return list(dict.fromkeys(state for source, _, target in steps for state in (source, target)))
+
+    steps = [(f"{s}, {o}", word, f"{t}, {o}") for o in states(other) for s, word, t in one]
+    return steps + [(f"{o}, {s}", word, f"{o}, {t}") for o in states(one) for s, word, t in other]
 
 
 # Buffers.
@@ -403,50 +421,82 @@ def gas_station():
     family.finish()
 
 
-# Parts of the LOTOS transport handler, source document 000, figure 2. All actions are outputs.
+# Parts of the LOTOS transport handler, source document 000, figure 2. All actions but exit are outputs.
+
+EXITS = ("exits", EXIT, "stop")
+DATA = [("data", TAU, "sends"), ("sends", "DatReq!", "data"), ("data", "DatInd!", "data")]
+TERM = [("term", TAU, "ends"), ("term", "DisInd!", "exits"), ("ends", "DisReq!", "exits")]
+
 
 def transport_handler():
-    family = Family("LOTOS transport handler", gates=True)
+    # DatReq and DatInd keep the numbers that they had when exit was gate 7.
+    family = Family("LOTOS transport handler", gates=True,
+                    channels="CInd CReq CCnf DisInd CRes DisReq halt DatReq DatInd")
+    for make in (connection_phase, data_and_term, whole_handler, connection_observed, exit_alone, term_phase,
+                 two_term_phases):
+        make(family)
+    family.finish()
 
-    def connect(end, inner=True):
-        steps = [("conn", "CInd!", "called"), ("calling", "CReq!", "requested"),
-                 ("requested", "CCnf!", end), ("requested", "DisInd!", "conn"),
-                 ("accepts", "CRes!", end), ("rejects", "DisReq!", "conn")]
-        if inner:
-            return [("conn", TAU, "calling"), ("called", TAU, "accepts"), ("called", TAU, "rejects")] + steps
-        short = [("conn", "CInd!", "called"), ("conn", "CReq!", "requested"), ("called", "CRes!", end),
-                 ("called", "DisReq!", "conn")]
-        return short + steps[2:4]
 
-    def data_until_end(end):
-        """Data_Phase disabled by Term_Phase."""
-        steps = [("data", TAU, "sends"), ("sends", "DatReq!", "data"), ("data", "DatInd!", "data")]
-        for alive in ("data", "sends"):
-            steps += [(alive, TAU, "ends"), (alive, "DisInd!", end)]
-        return steps + [("ends", "DisReq!", end)]
+def connect(end, inner=True):
+    """Conn_Phase, which goes on in `end`; without `inner` its i steps are left out."""
+    steps = [("conn", "CInd!", "called"), ("calling", "CReq!", "requested"),
+             ("requested", "CCnf!", end), ("requested", "DisInd!", "conn"),
+             ("accepts", "CRes!", end), ("rejects", "DisReq!", "conn")]
+    if inner:
+        return [("conn", TAU, "calling"), ("called", TAU, "accepts"), ("called", TAU, "rejects")] + steps
+    short = [("conn", "CInd!", "called"), ("conn", "CReq!", "requested"), ("called", "CRes!", end),
+             ("called", "DisReq!", "conn")]
+    return short + steps[2:4]
 
-    exits = ("exits", "exit!", "stop")
-    connection = single_leaf(family, "lotos_connect", connect("exits") + [exits])
-    without = single_leaf(family, "lotos_connect_without_i", connect("exits", inner=False) + [exits])
+
+def data_until_end(end):
+    """Data_Phase disabled by Term_Phase."""
+    ends = [step for alive in ("data", "sends") for step in ((alive, TAU, "ends"), (alive, "DisInd!", end))]
+    return DATA + ends + [("ends", "DisReq!", end)]
+
+
+def connection_phase(family):
+    connection = single_leaf(family, "lotos_connect", connect("exits") + [EXITS])
+    without = single_leaf(family, "lotos_connect_without_i", connect("exits", inner=False) + [EXITS])
     pair(connection, without, "different", "different")
 
-    flat = single_leaf(family, "lotos_data_term", data_until_end("exits") + [exits])
-    data = [("data", TAU, "sends"), ("sends", "DatReq!", "data"), ("data", "DatInd!", "data")]
-    term = [("term", "DisInd!", "exits"), ("ends", "DisReq!", "exits"), exits]
-
     model = Model(family)
+    model.restrict(model.leaf("connect", connect("exits") + [EXITS]), ["CInd"])
+    calling = [("conn", TAU, "calling"), ("calling", "CReq!", "requested"), ("requested", "CCnf!", "exits"),
+               ("requested", "DisInd!", "conn"), EXITS]
+    pair(model.save("lotos_connect_no_calls"), single_leaf(family, "lotos_calling", calling), "equal", "equal")
+
+
+def data_and_term(family):
+    flat = single_leaf(family, "lotos_data_term", data_until_end("exits") + [EXITS])
     gate = [("open", "DatReq!", "open"), ("open", "DatInd!", "open"), ("open", "halt!", "shut"),
             ("open", "DisInd!", "shut")]
-    gated = model.joint(model.leaf("data", data), model.leaf("gate", gate), ["DatReq", "DatInd"])
-    halted = model.joint(gated, model.leaf("term", [("term", "halt!", "ends")] + term), ["halt", "DisInd"])
-    model.hide(halted, ["halt"])
-    pair(model.save("lotos_data_term_gate"), flat, "different", "equal")
 
     model = Model(family)
-    model.joint(model.leaf("data", data), model.leaf("term", [("term", TAU, "ends")] + term), [])
-    pair(model.save("lotos_data_beside_term"), flat, "different", "different")
+    gated = model.joint(model.leaf("data", DATA), model.leaf("gate", gate), ["DatReq", "DatInd"])
+    # Data and gate have no exit, so a leaf composed with them exits in their place.
+    ending = model.compose(gated, model.leaf("ending", [EXITS]))
+    term = model.leaf("term", [("term", "halt!", "ends")] + TERM[1:] + [EXITS])
+    model.hide(model.joint(ending, term, ["halt", "DisInd"]), ["halt"])
+    pair(model.save("lotos_data_term_gate"), flat, "different", "equal")
 
-    whole = connect("connected") + [("connected", TAU, "data")] + data_until_end("over") + [("over", TAU, "conn")]
+    def both(join, name):
+        model = Model(family)
+        join(model, model.leaf("data", DATA), model.leaf("term", TERM + [EXITS]))
+        return model.save(name)
+
+    apart = both(beside, "lotos_data_beside_term")
+    pair(apart, flat, "different", "different")
+    stops = single_leaf(family, "lotos_data_beside_stop", side_by_side(DATA, TERM))
+    pair(apart, stops, "equal", "equal")
+    pair(both(Model.compose, "lotos_data_term_composed"), apart, "different", "different")
+
+
+def whole_handler(family):
+    """With a tau step for each enabling."""
+    rest = data_until_end("over") + [("over", TAU, "conn")]
+    whole = connect("connected") + [("connected", TAU, "data")] + rest
     handler = single_leaf(family, "lotos_handler", whole)
     short = single_leaf(family, "lotos_handler_short", connect("data") + data_until_end("conn"))
     pair(handler, short, "different", "equal")
@@ -455,9 +505,137 @@ def transport_handler():
     model.restrict(model.leaf("handler", whole), ["CInd"])
     caller = [("conn", TAU, "calling"), ("calling", "CReq!", "requested"), ("requested", "CCnf!", "connected"),
               ("requested", "DisInd!", "conn"), ("connected", TAU, "data")]
-    calling = single_leaf(family, "lotos_caller", caller + data_until_end("over") + [("over", TAU, "conn")])
-    pair(model.save("lotos_handler_no_calls"), calling, "equal", "equal")
+    pair(model.save("lotos_handler_no_calls"), single_leaf(family, "lotos_caller", caller + rest), "equal", "equal")
+
+
+def connection_observed(family):
+    """Conn_Phase with an observer, who notes the connection and then ends too."""
+    def observed(ending):
+        model = Model(family)
+        noting = [("waits", "CCnf!", "connected"), ("waits", "CRes!", "connected"), ("connected", "note!", "exits")]
+        phase = model.leaf("connect", connect("exits") + [EXITS])
+        return model, model.joint(phase, model.leaf("observer", noting + ending), ["CCnf", "CRes"])
+
+    noted = connect("connected") + [("connected", "note!", "exits"), EXITS]
+    service = single_leaf(family, "lotos_connect_noted", noted)
+    pair(observed([EXITS])[0].save("lotos_connect_observed"), service, "equal", "equal")
+
+    def hidden(ending, name):
+        model, whole = observed(ending)
+        model.hide(whole, ["note"])
+        return model.save(name)
+
+    pair(hidden([EXITS], "lotos_connect_note_hidden"), "lotos_connect", "different", "equal")
+    pair(hidden([], "lotos_connect_observer_stops"), "lotos_connect", "different", "different")
+
+
+def exit_alone(family):
+    one = single_leaf(family, "lotos_exit", [EXITS])
+    two = single_leaf(family, "lotos_exit_twice", [("exits", EXIT, "exits again"), ("exits again", EXIT, "stop")])
+
+    def both(join, name):
+        model = Model(family)
+        phase = model.leaf("phase", [EXITS])
+        join(model, phase, phase)
+        return model.save(name)
+
+    pair(both(beside, "lotos_exit_joined"), one, "equal", "equal")
+    pair(both(Model.compose, "lotos_exit_composed"), two, "equal", "equal")
+    pair("lotos_exit_composed", one, "different", "different")
+
+
+def term_phase(family):
+    """Its gates hidden; `expanded` is what table 2 makes of that."""
+    expanded = [(source, TAU, target) for source, _, target in TERM]
+    model = Model(family)
+    model.hide(model.leaf("term", TERM + [EXITS]), ["DisReq", "DisInd"])
+    hidden = model.save("lotos_term_hidden")
+    pair(hidden, single_leaf(family, "lotos_term_expanded", expanded + [EXITS]), "equal", "equal")
+    pair(hidden, "lotos_exit", "different", "equal")
+
+
+def two_term_phases(family):
+    """Term_Phase of two connections, each with gates of its own."""
+    def both(join):
+        model = Model(family)
+        term = model.leaf("term", TERM + [EXITS])
+        return model, join(model, term, model.relabel(term, DisReq="DisReq2", DisInd="DisInd2"))
+
+    def hidden(join, name):
+        model, whole = both(join)
+        model.hide(whole, ["DisReq", "DisInd", "DisReq2", "DisInd2"])
+        return model.save(name)
+
+    second = [(source, word.replace("!", "2!"), target) for source, word, target in TERM]
+    steps = side_by_side(TERM, second) + [("exits, exits", EXIT, "stop")]
+    service = single_leaf(family, "lotos_two_terms_service", steps)
+    pair(both(beside)[0].save("lotos_two_terms"), service, "equal", "equal")
+    pair(both(Model.compose)[0].save("lotos_two_terms_composed"), service, "different", "different")
+    pair(hidden(beside, "lotos_two_terms_hidden"), "lotos_exit", "different", "equal")
+    pair(hidden(Model.compose, "lotos_two_terms_composed_hidden"), "lotos_exit_twice", "different", "equal")
+
+
+# Two handlers of document 000, one of which calls the other through a provider; each of the three ends by exit.
+
+CALLING = [("idle", "CReq!", "requested"), ("requested", "CCnf!", "exits"), ("requested", "DisInd!", "idle"), EXITS]
+TO_CALLING = ["CReq", "CCnf", "DisInd"]
+TO_CALLED = ["CInd", "CRes", "DisReq"]
+
+
+def called(direction):
+    return [("idle", "CInd" + direction, "called"), ("called", TAU, "accepts"), ("called", TAU, "rejects"),
+            ("accepts", "CRes" + direction, "exits"), ("rejects", "DisReq" + direction, "idle"), EXITS]
+
+
+def provider(confirms):
+    """Carries the request to the called side, and its answer back, or ends without the answer that confirms."""
+    accepted = [("offered", "CRes!", "accepted"), ("accepted", "CCnf!", "exits")]
+    return [("idle", "CReq!", "asked"), ("asked", "CInd!", "offered"), ("offered", "DisReq!", "refused"),
+            ("refused", "DisInd!", "idle")] + (accepted if confirms else [("offered", "CRes!", "exits")]) + [EXITS]
+
+
+def connection_of_two():
+    family = Family("LOTOS connection of two handlers")
+
+    def joined(confirms=True):
+        model = Model(family)
+        caller = model.joint(model.leaf("calling", CALLING), model.leaf("provider", provider(confirms)), TO_CALLING)
+        return model, model.joint(caller, model.leaf("called", called("!")), TO_CALLED)
+
+    accepts = [("idle", "CReq!", "asked"), ("asked", "CInd!", "called"), ("called", TAU, "accepts"),
+               ("accepts", "CRes!", "accepted"), ("accepted", "CCnf!", "exits"), EXITS]
+    rejects = [("called", TAU, "rejects"), ("rejects", "DisReq!", "refused"), ("refused", "DisInd!", "idle")]
+    service = single_leaf(family, "lotos_connection_service", accepts + rejects)
+    pair(joined()[0].save("lotos_connection"), service, "equal", "equal")
+    pair(joined(confirms=False)[0].save("lotos_connection_unconfirmed"), service, "different", "different")
+    connection_regrouped(family, service)
+
+    model, whole = joined()
+    model.hide(whole, TO_CALLED)
+    decides = [("idle", "CReq!", "decides"), ("decides", TAU, "accepted"), ("decides", TAU, "refused"),
+               ("accepted", "CCnf!", "exits"), ("refused", "DisInd!", "idle"), EXITS]
+    seen = single_leaf(family, "lotos_connection_seen", decides)
+    pair(model.save("lotos_connection_hidden"), seen, "different", "equal")
+    connection_composed(family, seen)
     family.finish()
+
+
+def connection_regrouped(family, service):
+    """The called side is joined with the provider first."""
+    model = Model(family)
+    caller, between = model.leaf("calling", CALLING), model.leaf("provider", provider(True))
+    answering = model.joint(between, model.leaf("called", called("!")), TO_CALLED)
+    model.joint(caller, answering, TO_CALLING)
+    pair(model.save("lotos_connection_regrouped"), service, "equal", "equal")
+    pair("lotos_connection_regrouped", "lotos_connection", "equal", "equal")
+
+
+def connection_composed(family, seen):
+    """The called side, with inputs, is composed and not joined."""
+    model = Model(family)
+    caller = model.joint(model.leaf("calling", CALLING), model.leaf("provider", provider(True)), TO_CALLING)
+    model.restrict(model.compose(caller, model.leaf("called", called("?"))), TO_CALLED)
+    pair(model.save("lotos_connection_composed"), seen, "different", "different")
 
 
 # Shuttle: host link, journal, drive and a supply that may drop.
@@ -522,6 +700,9 @@ def shuttle():
     pair("shuttle1", "shuttle1_faulty", "different", "different")
     pair("shuttle2", "shuttle1_service", "different", "different")
     shuttle_of_cells(family)
+    parked_drive(family)
+    last_move(family)
+    shuttle_that_ends(family)
     family.finish()
 
 
@@ -609,6 +790,86 @@ def shuttle_of_cells(family):
     pair(counted(3, "survives", ""), "shuttle3_cells", "different", "equal")
     pair(counted(16, "survives", ""), "shuttle16_service", "different", "equal")
     pair(counted(16, "loses", "_faulty"), "shuttle16_service", "different", "different")
+
+
+# Phases of the shuttle that end by exit.
+
+def parked_drive(family):
+    """The drive can only exit, and the journal has a move to flush before it exits."""
+    flushes = [("new", "flush!", "flushed"), ("flushed", EXIT, "over")]
+    service = single_leaf(family, "shuttle_parked_service", flushes)
+
+    def both(join, name):
+        model = Model(family)
+        join(model, model.leaf("journal", flushes), model.leaf("drive", [("parked", EXIT, "over")]))
+        return model.save(name)
+
+    pair(both(beside, "shuttle_parked"), service, "equal", "equal")
+    pair(both(Model.compose, "shuttle_parked_composed"), service, "different", "different")
+
+
+def last_move(family):
+    """The drive carries the last move out while the journal writes it down: each ends by exit."""
+    arrives = [("moving", "arrive!", "arrived"), ("arrived", EXIT, "over")]
+    flushes = [("new", "flush!", "flushed"), ("flushed", EXIT, "over")]
+    book = [("ready", "move?", "given"), ("given", "go!", "new")] + flushes
+
+    model = Model(family)
+    drive = model.leaf("drive", [("idle", "go!", "moving")] + arrives)
+    model.hide(model.joint(model.leaf("journal", book), drive, ["go"]), ["go"])
+    ends = side_by_side(flushes[:1], arrives[:1]) + [("flushed, arrived", EXIT, "over")]
+    service = single_leaf(family, "shuttle_last_service", [("ready", "move?", "new, moving")] + ends)
+    pair(model.save("shuttle_last"), service, "different", "equal")
+
+    model = Model(family)
+    drive = model.leaf("drive", [("idle", "go?", "moving")] + arrives)
+    model.restrict(model.compose(model.leaf("journal", book), drive), ["go"])
+    composed = model.save("shuttle_last_composed")
+    pair(composed, service, "different", "different")
+    start = [("ready", "move?", "given"), ("given", TAU, "new, moving")]
+    alone = single_leaf(family, "shuttle_last_alone", start + side_by_side(flushes, arrives))
+    pair(composed, alone, "equal", "equal")
+
+
+def ending_parts(model, journal_ends, supply_ends):
+    """Journal for one move, drive and supply, joined. Journal and supply can exit in the states given."""
+    book = model.leaf("journal", write_cell("survives", "go!") + [(state, EXIT, "over") for state in journal_ends])
+    drive = model.leaf("drive", [("idle", "go!", "busy"), ("busy", "done!", "idle"), ("idle", EXIT, "over")])
+    turns = [("on", "drop!", "off"), ("off", "up!", "on")]
+    powered = ["flush", "go", "done"]
+    supply = model.leaf("supply", turns + [("on", word + "!", "on") for word in powered]
+                        + [(state, EXIT, "over") for state in supply_ends])
+    whole = model.joint(model.joint(book, drive, ["go"]), supply, ["drop"] + powered)
+    return model.hide(whole, ["drop", "up", "flush", "go"])
+
+
+def ending_link(model, log):
+    """Takes moves until the host lets the shuttle park."""
+    return model.leaf("host link", [("empty", "move?", "full"), ("full", log, "empty"), ("empty", "park?", "parked"),
+                                    ("parked", EXIT, "over")])
+
+
+def shuttle_that_ends(family):
+    def station(name, journal_ends=("empty",), supply_ends=("on",)):
+        model = Model(family)
+        link = ending_link(model, "log?")
+        model.hide(model.joint(link, ending_parts(model, journal_ends, supply_ends), ["log"]), ["log"])
+        return model.save(name)
+
+    parks = [(f"n{n}", "park?", f"n{n}, parked") for n in range(3)]
+    last = [(f"n{n}, parked", "done!", f"n{n - 1}, parked") for n in (1, 2)]
+    never_ends = counter(3, "move?", "done!") + parks + last
+    never = single_leaf(family, "shuttle_end_never", never_ends)
+    service = single_leaf(family, "shuttle_end_service", never_ends + [("n0, parked", EXIT, "over")])
+    pair(station("shuttle_end"), service, "different", "equal")
+    pair(station("shuttle_end_unflushed", journal_ends=("empty", "new")), service, "different", "different")
+    pair(station("shuttle_end_old_supply", supply_ends=()), service, "different", "different")
+    pair("shuttle_end_old_supply", never, "different", "equal")
+
+    model = Model(family)
+    link = ending_link(model, "log!")
+    model.restrict(model.compose(link, ending_parts(model, ("empty",), ("on",))), ["log"])
+    pair(model.save("shuttle_end_composed"), service, "different", "different")
 
 
 # Copies of one leaf that step together: one bit each.
@@ -710,11 +971,13 @@ def write(name, lines):
 
 
 def main():
-    families = (buffers, scheduler, alternating_bit, philosophers, gas_station, transport_handler, shuttle,
-                joined_leaves)
+    families = (buffers, scheduler, alternating_bit, philosophers, gas_station, transport_handler, connection_of_two,
+                shuttle, joined_leaves)
     for make in families:
         make()
-    title = ["# Channels, lines and states of the models", "", "Written by make.py. States are numbered from 0."]
+    title = ["# Channels, lines and states of the models", "",
+             f"Written by make.py. States are numbered from 0. `{EXIT}` is no channel: its action is "
+             f"{WITHOUT_CHANNEL[EXIT]}."]
     write("NAMES.md", title + names)
     if "--no-answers" not in sys.argv:
         expected()
