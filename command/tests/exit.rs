@@ -85,8 +85,11 @@ fn in_words() {
     let words = folder.done(&["show", "compose.hex"]);
     assert!(words.contains(composed) && words.contains("channels: 1 a, 2 b\n"), "{words}");
     assert!(words.contains("  t -- exit --> u\n"), "{words}");
-    folder.write("met.hex", "000102000201\n01020000\n");
-    assert!(!folder.done(&["show", "met.hex"]).contains("exit"));
+    // No exit in the leaf; and none of the joint, whose second side never exits.
+    for text in ["000102000201\n01020000\n", "000102003E01\n010101\n02060001\n03020202\n"] {
+        folder.write("met.hex", text);
+        assert!(folder.done(&["show", "met.hex"]).contains("together, as tau\n"));
+    }
 }
 
 #[test]

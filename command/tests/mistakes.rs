@@ -120,6 +120,27 @@ fn aut_files() {
     );
 }
 
+/// The 31st name, in one file and beside a table that names 30 channels.
+#[test]
+fn too_many_names() {
+    let labels = |count: usize| {
+        let lines: String = (0..count).map(|n| format!("(0, g{n}, 0)\n")).collect();
+        format!("des (0, {count}, 1)\n{lines}")
+    };
+    let too_many = "'g30' is one channel too many: there are at most 30. Use fewer names, or build fewer files together.";
+    says("m.aut", &labels(31), &["from-aut", "m.aut"], &format!("m.aut, line 32, column 5: {too_many}"));
+    let folder = Folder::new();
+    folder.write("m.aut", labels(30));
+    folder.done(&["from-aut", "m.aut"]);
+    folder.write("n.aut", "des (0, 2, 1)\n(0, exit, 0)\n(0, g30, 0)\n");
+    let ran = folder.run(&["from-aut", "n.aut", "--names", "m.names"]);
+    assert!(
+        ran.status == 3 && ran.err.contains(&format!("n.aut, line 3, column 5: {too_many}")),
+        "{}",
+        ran.err
+    );
+}
+
 #[test]
 fn name_tables() {
     let says = |text: &str, expected: &str| {
