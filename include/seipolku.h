@@ -90,7 +90,8 @@ uint64_t seipolku_compare(const uint8_t *left, size_t left_len, const uint8_t *r
 /* The value at an action and four state codes, from a root of an answer: 0 or 1; or 7 (slices unequal, or of a length that no table has)
  * or 10. 10 is due where the action is above 63 or a code is 2^24 or more, whatever bits the models have, and where the walk leaves the table
  * or its order, or comes to a node of a level above 149 (5 + 6 * 24). From a relation's root, where the now code is a state's: whether the
- * step is derived; at a code that no state has, more than the derived steps may hold. From the root of a verdict that is SEIPOLKU_VERDICT_EQUAL,
+ * step is derived; at a code that no state has, more than the derived steps may hold. Steps have the actions 0 (tau), 62 (exit), and 2c (output)
+ * and 2c + 1 (input) for a channel c from 1 to 30; no step has 1 or 63. From the root of a verdict that is SEIPOLKU_VERDICT_EQUAL,
  * for now codes within the models' bits: whether the largest bisimulation, strong or weak, holds the two. Test the verdict first: if it is not
  * equal, its root is 0, which is the constant false, and a look-up from it gives 0 for every pair. */
 uint64_t seipolku_look_up(const uint8_t *level, size_t level_len, const uint32_t *low, size_t low_len, const uint32_t *high, size_t high_len,

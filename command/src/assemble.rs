@@ -1,6 +1,6 @@
 //! From a model as written to its lines and its name table.
 
-use crate::frames::{Frame, Model, Triple, MOST_BYTES, MOST_LINES, MOST_STATES, MOST_TRIPLES};
+use crate::frames::{Frame, Model, Triple, EXIT, MOST_BYTES, MOST_LINES, MOST_STATES, MOST_TRIPLES};
 use crate::names::Names;
 use crate::numbering::Numbering;
 use crate::outcome::{misplaced, Misplaced};
@@ -233,6 +233,7 @@ impl Assembler<'_> {
     fn action(&self, act: &Act) -> Assembled<u8> {
         match act {
             Act::Tau => Ok(0),
+            Act::Exit => Ok(EXIT),
             Act::Output(channel) => Ok(2 * self.channel(channel)?),
             Act::Input(channel) if self.declared.get(&channel.name[..]) == Some(&true) => {
                 let sentence = format!(

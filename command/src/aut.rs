@@ -1,6 +1,7 @@
 //! Aldebaran files (.aut): reading and writing.
 
 use crate::outcome::{counted, misplaced, Misplaced};
+use crate::words::{EXIT_DIRECTED, EXIT_WORD};
 
 #[derive(Clone, Debug, PartialEq, Eq, PartialOrd, Ord)]
 pub enum Label {
@@ -9,6 +10,8 @@ pub enum Label {
     Input(String),
     /// A label without a direction.
     Gate(String),
+    /// The termination event.
+    Exit,
 }
 
 #[derive(Clone, Debug, PartialEq, Eq, PartialOrd, Ord)]
@@ -37,6 +40,9 @@ impl Label {
         if matches!(text, "i" | "tau") {
             return Ok(Label::Internal);
         }
+        if text == EXIT_WORD {
+            return Ok(Label::Exit);
+        }
         if let Some(c) = text.chars().find(|c| c.is_control()) {
             return Err(format!("the label has the control character {}; leave it out.", c.escape_unicode()));
         }
@@ -52,6 +58,7 @@ impl Label {
                 Err("the label is empty; write i for an internal step, or a name.".into())
             }
             Some(("", _)) => Err("the label has a direction but no name; write NAME! or NAME?.".into()),
+            Some((EXIT_WORD, _)) => Err(EXIT_DIRECTED.into()),
             None => Ok(Label::Gate(text.to_string())),
             Some((name, true)) => Ok(Label::Output(name.to_string())),
             Some((name, false)) => Ok(Label::Input(name.to_string())),
@@ -170,7 +177,7 @@ fn column(line: &str, part: &str) -> usize {
     line.get(..offset).map_or(1, |before| before.chars().count() + 1)
 }
 
-/// The file; labels stand in quotes, and the internal step as the given word.
+/// The file; labels stand in quotes, but for exit, and the internal step as the given word.
 pub fn print(aut: &Aut, internal: &str) -> String {
     let mut text = format!("des ({}, {}, {})\n", aut.first, aut.transitions.len(), aut.states);
     for Transition { from, label, to } in &aut.transitions {
@@ -179,6 +186,7 @@ pub fn print(aut: &Aut, internal: &str) -> String {
             Label::Output(name) => format!("\"{name}!\""),
             Label::Input(name) => format!("\"{name}?\""),
             Label::Gate(name) => format!("\"{name}\""),
+            Label::Exit => EXIT_WORD.to_string(),
         };
         text += &format!("({from}, {label}, {to})\n");
     }

@@ -1,6 +1,6 @@
 //! Which part of a refused line is wrong: only an explanation, the refusal itself is the library's.
 
-use crate::frames::{bytes, MOST_CHANNEL, MOST_LINES, MOST_STATES};
+use crate::frames::{bytes, EXIT, EXIT_CHANNEL, MOST_CHANNEL, MOST_LINES, MOST_STATES};
 use crate::outcome::counted;
 
 /// The first column of the part in the line, its length, and what is wrong with it.
@@ -111,7 +111,7 @@ fn wrong(role: Role, byte: u8, number: u64, bytes: &[u8]) -> Option<String> {
     let bad = match role {
         Role::Count => byte == 0 || usize::from(byte) > MOST_STATES,
         Role::State => byte >= states,
-        Role::Action => byte == 1 || byte > 63,
+        Role::Action => byte == 1 || byte > EXIT,
         Role::Channel => byte == 0 || byte > MOST_CHANNEL,
         Role::Operand => u64::from(byte) >= number,
     };
@@ -120,9 +120,15 @@ fn wrong(role: Role, byte: u8, number: u64, bytes: &[u8]) -> Option<String> {
         Role::State => {
             format!("state {byte}; this leaf has {}, counted from 0", counted(u64::from(states), "state"))
         }
+        Role::Action if byte == EXIT + 1 => {
+            format!("action {byte}; channel {EXIT_CHANNEL} is the termination event, whose only action is {EXIT}")
+        }
         Role::Action => format!(
-            "action {byte}; actions are 0 (tau), 2c (output) and 2c + 1 (input) for a channel c from 1 to 31"
+            "action {byte}; actions are 0 (tau), {EXIT} (exit), and 2c (output) and 2c + 1 (input) for a channel c from 1 to {MOST_CHANNEL}"
         ),
+        Role::Channel if byte == EXIT_CHANNEL => {
+            format!("channel {byte}; it is the termination event, which no list or relabelling names")
+        }
         Role::Channel => format!("channel {byte}; channels go from 1 to {MOST_CHANNEL}"),
         Role::Operand => format!("line {byte}; an operand is a line before this one"),
     };

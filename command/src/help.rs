@@ -80,7 +80,7 @@ const STEPS: &str = "\
 seipolku steps MODEL [--all] [--line K] [--most N]
 
 Lists the states that can be reached from the start and their steps, which the operators' rules give: '-- in a -->' is an input and
-'-- out a -->' an output on channel a, '-- tau -->' an internal step.
+'-- out a -->' an output on channel a, '-- tau -->' an internal step, '-- exit -->' the termination of a phase.
 
   --all      every state, reachable or not.
   --line K   the process of line K in place of the last one.
@@ -98,11 +98,11 @@ const SHOW: &str = "\
 seipolku show MODEL [--line K] [--dot [--most N]]
 
 Prints a model line by line in words, and as an expression: P | Q compose, P \\ {a} restrict, P[b/a] relabel (a becomes b),
-hide a in P, P |[a]| Q joint.
+hide a in P, P |[a]| Q joint (exit is always on both sides together).
 
   --line K   the model up to line K.
   --dot      a picture for Graphviz: of the reachable part of the model, or of a leaf with all its states if the last line is one.
-             Outputs are written a!, inputs a?; internal steps are dashed.
+             Outputs are written a!, inputs a?, termination exit; internal steps are dashed.
   --most N   the most states in a picture. Default: 1,000. There is no picture of a larger model, nor of one with more than 10,000,000
              states and steps.
 
@@ -132,9 +132,9 @@ Turns each Aldebaran file X.aut into a model text X.hex of one leaf, and a table
 and not read. All files given together get one numbering of channels, so that they can be compared. The table also has a digest of X.aut,
 so that an outdated X.hex is known.
 
-Labels, with or without quotes: i or tau is an internal step; NAME! or !NAME an output, NAME? or ?NAME an input; NAME alone is a gate,
-that is, an output that is written back without the mark. A first state other than 0 changes places with state 0. A leaf has at most 64
-states and 84 transitions.
+Labels, with or without quotes: i or tau is an internal step; exit is the termination event of LOTOS; NAME! or !NAME is an output,
+NAME? or ?NAME an input; NAME alone is a gate, that is, an output that is written back without the mark. A first state other than 0
+changes places with state 0. A leaf has at most 64 states and 84 transitions, and all files together have at most 30 names.
 
   --into FOLDER   write the files there, not beside the .aut files.
   --names TABLE   take channel numbers from this table of names first.
@@ -147,8 +147,9 @@ Examples:
 const TO_AUT: &str = "\
 seipolku to-aut MODEL [--line K] [--most N] [--tau] [--out FILE]
 
-Writes the part of a model that can be reached from its start as an Aldebaran file, with the names of its table. The states of a model of
-one leaf that came from an .aut file get their old numbers back. from-aut reads it back, up to 64 states and 84 transitions.
+Writes the part of a model that can be reached from its start as an Aldebaran file, with the names of its table; the termination event is
+written exit. The states of a model of one leaf that came from an .aut file get their old numbers back. from-aut reads it back, up to 64
+states and 84 transitions.
 
   --line K    the process of line K in place of the last one.
   --most N    the most states. Default: 1,000. Nothing is written of a larger model, nor of one with more than 10,000,000 states and
@@ -173,20 +174,21 @@ not read. The table also has digests of X.model and of the .aut files that it na
 With --text it goes back: the readable form of a model text with its names. Back and forth gives the same text and the same names.
 
   # A remark. A name of other characters than letters, digits, _ . ' stands in quotes.
-  channels move, done, drop, up          numbers 1, 2, .. in this order, or one's own: channels drop = 7
+  channels move, done, drop, up          numbers 1, 2, .. in this order, or one's own from 1 to 30: channels drop = 7
   gates put, get                         channels without inputs, whose outputs are written without 'out'
 
   leaf journal                           or: leaf journal from \"journal.aut\"
-    states empty, pending                the first one is the start; without this line, as the steps name them
+    states empty, pending, closed        the first one is the start; without this line, as the steps name them
     empty -- in move --> pending
     pending -- out done --> empty
     pending -- tau --> empty
+    empty -- exit --> closed             termination, no channel: never declared and in no list
 
-  both = compose journal supply          either side alone, or an output and an input together as tau; three or more from the left
+  both = compose journal supply          either side alone, also exit, or output and input together as tau; three or more from the left
   closed = restrict both on drop, up     no steps on these channels
   other = relabel cell move to log, done to go   one after the other
   quiet = hide both on drop              steps on these channels become tau
-  model = joint one other on put, get    on these channels both take the same step together
+  model = joint one other on put, get    on these channels both take the same step together, and exit always
 
 The last definition is the model. Files given together get one numbering of channels.
 

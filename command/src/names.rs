@@ -1,13 +1,13 @@
 //! The name table of a model: names of channels, processes and states, kept beside the hexadecimal text.
 
 use crate::aut::Label;
-use crate::frames::{Frame, Model, MOST_CHANNEL};
+use crate::frames::{Frame, Model, EXIT_CHANNEL, MOST_CHANNEL};
 use crate::origin::{Kind, Origin, Read};
 use crate::outcome::{misplaced, Misplaced};
 use crate::sha256;
 use crate::sorts;
 use crate::tokens::{tokens, Placed};
-use crate::words::spelled;
+use crate::words::{spelled, EXIT_WORD};
 use std::collections::{BTreeMap, BTreeSet};
 
 #[derive(Clone, Debug, PartialEq, Eq)]
@@ -25,8 +25,11 @@ pub struct Names {
     pub origin: Origin,
 }
 
-/// Why a channel can't have the name: an .aut file, which has no escapes, would give another one back.
+/// Why a channel can't have the name: it is the termination event's, or an .aut file, which has no escapes, would give another one back.
 pub fn unfit(name: &str, gate: bool) -> Option<&'static str> {
+    if name == EXIT_WORD {
+        return Some("exit is the termination event, and no channel or gate has this name; leave it out, or choose another name.");
+    }
     if name.trim() != name {
         return Some("a channel's name can't start or end with a space; leave it out.");
     }
@@ -146,14 +149,7 @@ impl Names {
     }
 
     fn channel_entry(&mut self, entry: &Entry) -> Result<bool, Misplaced> {
-        let number = entry.number_at(1)?;
-        let Some(number) = u8::try_from(number).ok().filter(|n| (1..=MOST_CHANNEL).contains(n)) else {
-            return misplaced(
-                entry.number,
-                entry.words[1].column,
-                "channels have the numbers 1 to 31; write one of these.",
-            );
-        };
+        let number = entry.channel_at(1)?;
         let name = entry.name_at(2)?;
         let gate = entry.words[0].is("gate");
         if let Some(sentence) = unfit(&name, gate) {
@@ -210,6 +206,19 @@ impl Entry<'_> {
     fn number_at(&self, index: usize) -> Result<usize, Misplaced> {
         let number = self.words[index].name().and_then(|w| w.parse::<u16>().ok());
         self.due(index, number.map(usize::from), "a number is due here; write one in decimal digits.")
+    }
+
+    fn channel_at(&self, index: usize) -> Result<u8, Misplaced> {
+        let number = u8::try_from(self.number_at(index)?).ok();
+        let sentence = match number {
+            Some(EXIT_CHANNEL) => {
+                format!(
+                    "{EXIT_CHANNEL} is the termination event, which is always called exit; remove this line."
+                )
+            }
+            _ => format!("channels have the numbers 1 to {MOST_CHANNEL}; write one of these."),
+        };
+        self.due(index, number.filter(|n| (1..=MOST_CHANNEL).contains(n)), &sentence)
     }
 
     fn name_at(&self, index: usize) -> Result<String, Misplaced> {

@@ -78,7 +78,7 @@ impl Numbering {
         Ok(&mut self.entries[index])
     }
 
-    /// Gives numbers to the names that have none, in their order: first to c1 to c31, as channels without a name are written, their
+    /// Gives numbers to the names that have none, in their order: first to c1 to c30, as channels without a name are written, their
     /// own one if it is free, then to the others the least free one. There are enough for all names.
     pub fn settle(&mut self) {
         self.fill(|name, number| name == format!("c{number}"));

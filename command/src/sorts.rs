@@ -1,6 +1,6 @@
 //! The actions that a line's process may take, as far as its operators let them through; reachable or not.
 
-use crate::frames::{Frame, Model};
+use crate::frames::{Frame, Model, EXIT_CHANNEL};
 use std::collections::BTreeSet;
 
 pub type Sort = BTreeSet<u8>;
@@ -28,8 +28,9 @@ pub fn one(frame: &Frame, earlier: &[Sort]) -> Sort {
             of(i).into_iter().map(renamed).collect()
         }
         Frame::Joint(i, j, list) => {
+            let list = [&list[..], &[EXIT_CHANNEL]].concat();
             let together = (&of(i) & &of(j)).into_iter().filter(|a| list.contains(&(a / 2)));
-            let alone: Sort = without(&of(i) | &of(j), list);
+            let alone: Sort = without(&of(i) | &of(j), &list);
             alone.into_iter().chain(together).collect()
         }
     }

@@ -21,6 +21,7 @@ pub struct Declared {
 #[derive(Debug)]
 pub enum Act {
     Tau,
+    Exit,
     Output(Named),
     Input(Named),
     /// A gate's name alone.
@@ -106,6 +107,7 @@ impl Source {
 fn act(label: &Label, at: impl Fn(&str) -> Named) -> (Act, Option<(Named, bool)>) {
     match label {
         Label::Internal => (Act::Tau, None),
+        Label::Exit => (Act::Exit, None),
         Label::Output(a) => (Act::Output(at(a)), Some((at(a), false))),
         Label::Input(a) => (Act::Input(at(a)), Some((at(a), false))),
         Label::Gate(a) => (Act::Gate(at(a)), Some((at(a), true))),

@@ -1,10 +1,11 @@
 //! Parsing the readable form, one line at a time.
 
 use crate::aut::Aut;
-use crate::frames::MOST_STATES;
+use crate::frames::{EXIT_CHANNEL, MOST_CHANNEL, MOST_STATES};
 use crate::outcome::{misplaced, Misplaced};
 use crate::source::{Act, Body, Declared, Definition, Named, Places, Source, Step};
 use crate::tokens::{tokens, Placed, Token};
+use crate::words::{EXIT_DIRECTED, EXIT_WORD};
 
 type Parsed<T> = Result<T, Misplaced>;
 
@@ -13,6 +14,11 @@ pub type Open<'a> = &'a dyn Fn(&str) -> Result<Aut, String>;
 
 const LINES: &str = "a line is 'channels ..', 'gates ..', 'leaf NAME', 'states ..', a step 'STATE -- out CHANNEL --> STATE', \
                      or 'NAME = OPERATOR ..'";
+
+/// What is said of exit in a list or a relabelling, and where it stands in quotes in the place of a gate.
+const EXIT_LISTED: &str =
+    "exit is the termination event and no channel: joint takes it on both sides together, and no list or relabelling names it; leave it out.";
+const EXIT_QUOTED: &str = "exit is the termination event and no gate; write it without quotes.";
 
 pub fn parse(text: &str, open: Open) -> Parsed<Source> {
     let mut source = Source::default();
@@ -62,13 +68,17 @@ fn declarations(source: &mut Source, line: &mut Line, gate: bool) -> Parsed<()> 
 }
 
 fn channel_number(line: &mut Line) -> Parsed<u8> {
-    let found = line.peek().and_then(Placed::name).and_then(|w| w.parse::<u8>().ok());
-    match found.filter(|n| (1..=31).contains(n)) {
-        Some(number) => {
+    match line.peek().and_then(Placed::name).and_then(|w| w.parse::<u8>().ok()) {
+        Some(number @ 1..=MOST_CHANNEL) => {
             line.next += 1;
             Ok(number)
         }
-        None => line.wrong("a channel's number from 1 to 31 is due here; write one, or leave out the '='."),
+        Some(EXIT_CHANNEL) => line.wrong(&format!(
+            "{EXIT_CHANNEL} is the termination event, exit, and no channel's number; write one from 1 to {MOST_CHANNEL}, or leave out the '='."
+        )),
+        _ => line.wrong(&format!(
+            "a channel's number from 1 to {MOST_CHANNEL} is due here; write one, or leave out the '='."
+        )),
     }
 }
 
@@ -133,22 +143,26 @@ fn step(source: &mut Source, line: &mut Line) -> Parsed<()> {
     Ok(())
 }
 
-/// `tau`, `out CHANNEL`, `in CHANNEL`, or a gate alone.
+/// `tau`, `exit`, `out CHANNEL`, `in CHANNEL`, or a gate alone.
 fn act(line: &mut Line) -> Parsed<Act> {
     let alone = line.words.get(line.next + 1).is_some_and(|w| matches!(w.token, Token::Mark(_)));
     if alone && line.skip("tau") {
         return Ok(Act::Tau);
     }
+    if alone && line.skip(EXIT_WORD) {
+        return Ok(Act::Exit);
+    }
     if alone {
-        return Ok(Act::Gate(line.name("an action: tau, out CHANNEL, in CHANNEL or a gate's name")?));
+        let what = "an action: tau, exit, out CHANNEL, in CHANNEL or a gate's name";
+        return Ok(Act::Gate(line.channel(what, EXIT_QUOTED)?));
     }
     if line.skip("out") {
-        return Ok(Act::Output(line.name("the channel of the output")?));
+        return Ok(Act::Output(line.channel("the channel of the output", EXIT_DIRECTED)?));
     }
     if line.skip("in") {
-        return Ok(Act::Input(line.name("the channel of the input")?));
+        return Ok(Act::Input(line.channel("the channel of the input", EXIT_DIRECTED)?));
     }
-    line.wrong("an action is tau, out CHANNEL, in CHANNEL or a gate's name alone; write one of these.")
+    line.wrong("an action is tau, exit, out CHANNEL, in CHANNEL or a gate's name alone; write one of these.")
 }
 
 fn definition(line: &mut Line) -> Parsed<Definition> {
@@ -183,9 +197,9 @@ fn compose(line: &mut Line) -> Parsed<Body> {
 fn relabelling(line: &mut Line) -> Parsed<Vec<(Named, Named)>> {
     let mut changes = Vec::new();
     loop {
-        let old = line.name("a channel, as in 'relabel P OLD to NEW'")?;
+        let old = line.channel("a channel, as in 'relabel P OLD to NEW'", EXIT_LISTED)?;
         line.mark("to")?;
-        changes.push((old, line.name("the channel's new name")?));
+        changes.push((old, line.channel("the channel's new name", EXIT_LISTED)?));
         line.skip(",");
         if line.at_end() {
             return Ok(changes);
@@ -245,6 +259,14 @@ impl Line {
         Ok(named)
     }
 
+    /// The name of a channel or gate; exit is none, and gets a sentence.
+    fn channel(&mut self, what: &str, exit: &str) -> Parsed<Named> {
+        if self.peek().and_then(Placed::name) == Some(EXIT_WORD) {
+            return self.wrong(exit);
+        }
+        self.name(what)
+    }
+
     fn process(&mut self) -> Parsed<Named> {
         let named = self.name("the name of a process");
         self.skip(",");
@@ -259,7 +281,8 @@ impl Line {
         }
         self.mark("on")?;
         loop {
-            channels.push(self.name("a channel after 'on' (leave out 'on' for an empty list)")?);
+            let what = "a channel after 'on' (leave out 'on' for an empty list)";
+            channels.push(self.channel(what, EXIT_LISTED)?);
             self.skip(",");
             if self.at_end() {
                 return Ok(channels);

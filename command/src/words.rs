@@ -1,5 +1,6 @@
 //! How names, actions and kinds of verdicts are written.
 
+use crate::frames::EXIT;
 use crate::names::Names;
 use seipolku::Mode;
 use std::path::Path;
@@ -34,10 +35,26 @@ pub fn for_shell(path: &Path) -> String {
     format!("\"{escaped}\"")
 }
 
-/// An action in the readable form: `tau`, `out a`, `in a`, or a gate's name alone.
+/// The termination event in every form: an action, and never the name of a channel or gate.
+pub const EXIT_WORD: &str = "exit";
+
+/// What is said of it with a direction.
+pub const EXIT_DIRECTED: &str =
+    "exit is the termination event and no channel, so it has no direction; write exit alone.";
+
+/// The actions that are on no channel with a name.
+fn without_channel(number: u8) -> Option<String> {
+    match number {
+        0 => Some("tau".to_string()),
+        EXIT => Some(EXIT_WORD.to_string()),
+        _ => None,
+    }
+}
+
+/// An action in the readable form: `tau`, `exit`, `out a`, `in a`, or a gate's name alone.
 pub fn action(number: u8, names: &Names) -> String {
-    if number == 0 {
-        return "tau".to_string();
+    if let Some(word) = without_channel(number) {
+        return word;
     }
     let channel = number / 2;
     let name = names.channel(channel);
@@ -50,10 +67,10 @@ pub fn action(number: u8, names: &Names) -> String {
     }
 }
 
-/// An action in short: `tau`, `a!`, `a?`, or a gate's name alone.
+/// An action in short: `tau`, `exit`, `a!`, `a?`, or a gate's name alone.
 pub fn short_action(number: u8, names: &Names) -> String {
-    if number == 0 {
-        return "tau".to_string();
+    if let Some(word) = without_channel(number) {
+        return word;
     }
     let name = names.channel(number / 2);
     match (number % 2, names.is_gate(number / 2)) {

@@ -14,6 +14,7 @@ const FILES: &[&str] = &[
     "examples/shuttle_from_aut.model",
     "examples/journal_faulty.aut",
     "examples/service.aut",
+    "examples/parking.model",
 ];
 
 const RUNS: &[&[&str]] = &[

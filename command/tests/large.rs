@@ -47,7 +47,7 @@ fn tangled() -> String {
     let mut random = Random(8);
     let leaves = MAX_BITS as u8 / 3;
     let mut leaf = |number: u8| {
-        let mut step = |_| [random.below(8) as u8, 2 + random.below(62) as u8, random.below(8) as u8];
+        let mut step = |_| [random.below(8) as u8, 2 + random.below(61) as u8, random.below(8) as u8];
         digits(&[vec![number, 1, 8], (0..84).flat_map(&mut step).collect()].concat()) + "\n"
     };
     let lines: String = (0..leaves).map(&mut leaf).collect();

@@ -45,6 +45,7 @@ fn numbers(words: &str) -> Vec<u64> {
 
 fn action(words: &str) -> u64 {
     match words.split_once(' ') {
+        None if words == "exit" => 62,
         None => 0,
         Some((direction, channel)) => 2 * channel[1..].parse::<u64>().unwrap() + u64::from(direction == "in"),
     }

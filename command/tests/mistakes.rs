@@ -21,7 +21,7 @@ fn readable_form() {
     says("", "line 1, column 1: the file defines no process");
     says("leaf a\n", "line 1, column 6: this leaf has no state");
     says("channels\n", "line 1, column 9: the name of a channel is due");
-    says("channels a = 32\n", "line 1, column 14: a channel's number from 1 to 31");
+    says("channels a = 32\n", "line 1, column 14: a channel's number from 1 to 30 is due");
     says("channels a = 3, b = 3\nleaf x\n states s\n", "line 1, column 17: channel 3 is 'a' already");
     says("gates a\nchannels a\nleaf x\n states s\n", "line 2, column 10: 'a' stands with a direction");
     says("s -- tau --> t\n", "line 1, column 1: states and steps belong below a 'leaf NAME' line");
@@ -85,7 +85,10 @@ fn sizes() {
     );
     let channels: String = (0..32).map(|n| format!("channels c{n}\n")).collect();
     says(&channels, "the file defines no process");
-    says(&format!("{channels}leaf a\n  states s\n"), "line 32, column 10: 'c31' is one channel too many");
+    says(
+        &format!("{channels}leaf a\n  states s\n"),
+        "line 31, column 10: 'c30' is one channel too many: there are at most 30.",
+    );
     let leaves: String = (0..65).map(|n| format!("leaf a{n}\n  states s\n")).collect();
     says(&leaves, "line 129, column 6: this definition makes line 64");
     let states: String = (0..64).map(|n| format!("s{n} ")).collect();
@@ -117,6 +120,27 @@ fn aut_files() {
     );
 }
 
+/// The 31st name, in one file and beside a table that names 30 channels.
+#[test]
+fn too_many_names() {
+    let labels = |count: usize| {
+        let lines: String = (0..count).map(|n| format!("(0, g{n}, 0)\n")).collect();
+        format!("des (0, {count}, 1)\n{lines}")
+    };
+    let too_many = "'g30' is one channel too many: there are at most 30. Use fewer names, or build fewer files together.";
+    says("m.aut", &labels(31), &["from-aut", "m.aut"], &format!("m.aut, line 32, column 5: {too_many}"));
+    let folder = Folder::new();
+    folder.write("m.aut", labels(30));
+    folder.done(&["from-aut", "m.aut"]);
+    folder.write("n.aut", "des (0, 2, 1)\n(0, exit, 0)\n(0, g30, 0)\n");
+    let ran = folder.run(&["from-aut", "n.aut", "--names", "m.names"]);
+    assert!(
+        ran.status == 3 && ran.err.contains(&format!("n.aut, line 3, column 5: {too_many}")),
+        "{}",
+        ran.err
+    );
+}
+
 #[test]
 fn name_tables() {
     let says = |text: &str, expected: &str| {
@@ -129,7 +153,9 @@ fn name_tables() {
         assert_eq!(folder.run(&["check", "m.hex"]).status, 0);
     };
     says("chanel 1 a\n", "line 1, column 1: a line of a name table is");
-    says("channel 0 a\n", "line 1, column 9: channels have the numbers 1 to 31");
+    says("channel 0 a\n", "line 1, column 9: channels have the numbers 1 to 30");
+    says("gate 32 a\n", "line 1, column 6: channels have the numbers 1 to 30");
+    says("channel 287 a\n", "line 1, column 9: channels have the numbers 1 to 30");
     says("channel x a\n", "line 1, column 9: a number is due");
     says("channel 1 a\nchannel 2 a\n", "line 2, column 1: this number or name stands above");
     says("process 1 a\n", "line 1, column 9: the model has no line 1");
@@ -138,6 +164,100 @@ fn name_tables() {
     says("source text a.model 00\n", "line 1, column 8: the kind of a source is model or aut");
     says("channel 1 \" a\"\n", "line 1, column 11: a channel's name can't start or end with a space");
     says("gate 1 \"a!\"\n", "line 1, column 8: a gate can't have the name i or tau");
+}
+
+fn build_says(text: &str, expected: &str) {
+    says("m.model", text, &["build", "m.model"], &format!("m.model, {expected}"));
+}
+
+/// What is said where a channel or gate is to be called exit, or to have its number.
+const NAMED: &str =
+    "exit is the termination event, and no channel or gate has this name; leave it out, or choose another name.";
+
+#[test]
+fn exit_declared() {
+    for line in [
+        "channels exit",
+        "channels \"exit\"",
+        "channels exit = 7",
+        "channels exit = 30, b",
+        "gates a, exit",
+        "gates a, \"exit\" = 7",
+    ] {
+        build_says(&format!("{line}\nleaf a\n  states s\n"), &format!("line 1, column 10: {NAMED}"));
+    }
+    let number = "31 is the termination event, exit, and no channel's number; write one from 1 to 30, or leave out the '='.";
+    build_says("channels a = 31\n", &format!("line 1, column 14: {number}"));
+    build_says("gates a, exit = 31\n", &format!("line 1, column 17: {number}"));
+}
+
+#[test]
+fn exit_in_lists_and_relabellings() {
+    for (line, column) in [
+        ("b = joint a a on exit", 18),
+        ("b = joint a a on x, exit", 21),
+        ("b = hide a on \"exit\"", 15),
+        ("b = restrict a on x exit", 21),
+        ("b = relabel a exit to x", 15),
+        ("b = relabel a x to exit", 20),
+        ("b = relabel a x to y, y to \"exit\"", 28),
+    ] {
+        let expected = format!(
+            "line 4, column {column}: exit is the termination event and no channel: joint takes it on both sides together, and \
+             no list or relabelling names it; leave it out."
+        );
+        build_says(&format!("channels x, y\nleaf a\n  states s\n{line}\n"), &expected);
+    }
+}
+
+const DIRECTED: &str =
+    "exit is the termination event and no channel, so it has no direction; write exit alone.";
+
+#[test]
+fn exit_in_steps() {
+    let says = |act: &str, expected: &str| {
+        build_says(&format!("leaf a\n  s -- {act} --> s\n"), &format!("line 2, column {expected}"))
+    };
+    says("out exit", &format!("12: {DIRECTED}"));
+    says("in exit", &format!("11: {DIRECTED}"));
+    says("out \"exit\"", &format!("12: {DIRECTED}"));
+    says("\"exit\"", "8: exit is the termination event and no gate; write it without quotes.");
+    says("exit exit", "8: an action is tau, exit, out CHANNEL");
+}
+
+#[test]
+fn exit_in_aut_files() {
+    for label in ["exit!", "!exit", "exit?", "?exit", "\"exit!\"", "\"? exit\"", "exit !"] {
+        let text = format!("des (0, 2, 2)\n(0, exit, 1)\n(0, {label}, 1)\n");
+        says("m.aut", &text, &["from-aut", "m.aut"], &format!("m.aut, line 3, column 5: {DIRECTED}"));
+        let folder = Folder::new();
+        folder.write("m.aut", text);
+        folder.write("m.model", "leaf a from \"m.aut\"\n");
+        let ran = folder.run(&["build", "m.model"]);
+        let expected = format!("m.model, line 1, column 13: m.aut, line 3, column 5: {DIRECTED}");
+        assert!(ran.status == 3 && ran.err.contains(&expected), "{}", ran.err);
+    }
+}
+
+#[test]
+fn exit_in_name_tables() {
+    let number = "31 is the termination event, which is always called exit; remove this line.";
+    let folder = Folder::new();
+    folder.write("m.hex", "000102003E01\n");
+    folder.write("n.aut", "des (0, 0, 1)\n");
+    for (line, column, sentence) in [
+        ("channel 31 a", 9, number),
+        ("gate 31 a", 6, number),
+        ("channel 31 exit", 9, number),
+        ("channel 1 exit", 11, NAMED),
+        ("gate 1 \"exit\"", 8, NAMED),
+    ] {
+        folder.write("m.names", format!("{line}\n"));
+        let expected = format!("m.names, line 1, column {column}: {sentence}");
+        let runs = [&["show", "m.hex"][..], &["from-aut", "n.aut", "--names", "m.names"]];
+        let ran = runs.map(|words| folder.run(words));
+        assert!(ran.iter().all(|r| r.status == 3 && r.err.contains(&expected)), "{line}: {}", ran[0].err);
+    }
 }
 
 /// A gate of the table on which the model has inputs, in a leaf or by relabelling.

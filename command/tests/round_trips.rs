@@ -9,16 +9,16 @@ use std::collections::BTreeSet;
 const NAMES: &[&str] = &[
     "a", "tau", "in", "out", "on", "to", "leaf", "states", "channels", "gates", "from", "compose", "=", "--",
     "-->", ",", "a b", "\"", "\\", "a\"b\\", "#", "0", "1", "p1", "p1_", "c2", "i", "τ", "é.x'", "x!", "?y",
-    "restrict", " z ",
+    "restrict", " z ", "exit", "exit!",
 ];
 
 fn spelled(name: &str) -> String {
     format!("\"{}\"", name.replace('\\', "\\\\").replace('"', "\\\""))
 }
 
-/// Names that only a channel with directions may have, and one that no channel may have.
-const DIRECTED: &[&str] = &["tau", "i", "x!", "?y"];
-const NO_CHANNEL: &str = " z ";
+/// Names that only a channel with directions may have, and those that no channel may have.
+const DIRECTED: &[&str] = &["tau", "i", "x!", "?y", "exit!"];
+const NO_CHANNEL: &[&str] = &[" z ", "exit"];
 
 /// The channels that may have inputs: those of a leaf's inputs, and those that others become.
 fn inputs(text: &str) -> BTreeSet<u8> {
@@ -40,9 +40,9 @@ fn inputs(text: &str) -> BTreeSet<u8> {
 fn names(random: &mut Random, text: &str) -> String {
     let mut table = String::new();
     let inputs = inputs(text);
-    let mut unused: Vec<&str> = NAMES.iter().copied().filter(|name| *name != NO_CHANNEL).collect();
-    for number in 1..=31 {
-        let often = matches!(number, 1..=3 | 31);
+    let mut unused: Vec<&str> = NAMES.iter().copied().filter(|name| !NO_CHANNEL.contains(name)).collect();
+    for number in 1..=30 {
+        let often = matches!(number, 1..=3 | 30);
         if random.below(if often { 2 } else { 8 }) == 0 && !unused.is_empty() {
             let name = unused.remove(random.below(unused.len()));
             let directed = inputs.contains(&number) || DIRECTED.contains(&name);
@@ -135,6 +135,7 @@ struct System {
 const LABELS: &[&str] = &[
     "i",
     "tau",
+    "exit",
     "move!",
     "move?",
     "!log",
@@ -147,6 +148,8 @@ const LABELS: &[&str] = &[
     "x y?",
     "é!",
     "!?",
+    "exit !1",
+    "exits",
 ];
 
 fn system(random: &mut Random) -> System {
@@ -166,10 +169,11 @@ fn written(random: &mut Random, system: &System) -> String {
     text
 }
 
-/// How a label comes back: internal steps as i, directions behind the name.
+/// How a label comes back: internal steps as i, termination without quotes, directions behind the name.
 fn normal(label: &str) -> String {
     match label {
         "i" | "tau" => "i".to_string(),
+        "exit" => "exit".to_string(),
         "!?" => "\"!?\"".to_string(),
         _ => match (label.strip_prefix('!'), label.strip_prefix('?')) {
             (Some(name), _) => format!("\"{name}!\""),

@@ -4,6 +4,7 @@
 #[derive(Clone, Copy, Debug, PartialEq, Eq)]
 pub struct Triple {
     pub from: u8,
+    /// 0 for the internal step, [`EXIT`], or 2c for an output and 2c + 1 for an input on a channel c from 1 to [`MOST_CHANNEL`].
     pub action: u8,
     pub to: u8,
 }
@@ -47,7 +48,12 @@ impl LeafUse {
 
 pub const MOST_LINES: usize = 64;
 pub const MOST_STATES: usize = 64;
-pub const MOST_CHANNEL: u8 = 31;
+/// Channels that a list or a relabelling may name go from 1 to this one.
+pub const MOST_CHANNEL: u8 = 30;
+/// Termination, the event that ISO 8807 (LOTOS) writes δ. Joint takes it on both sides together; compose lets it pass from either side alone.
+pub const EXIT: u8 = 62;
+/// Its channel, which has no other action, and which no list and no relabelling names.
+pub const EXIT_CHANNEL: u8 = EXIT / 2;
 pub const MOST_BYTES: usize = 255;
 /// Triples of one leaf: 255 bytes less number, kind and state count, by three.
 pub const MOST_TRIPLES: usize = (MOST_BYTES - 3) / 3;
@@ -105,9 +111,10 @@ impl Lines {
         uses.pop().unwrap_or_default()
     }
 
-    /// Every channel that a line names, in ascending order.
+    /// Every channel that a line names, in ascending order; termination is on none of these.
     pub fn channels(&self) -> Vec<u8> {
         let mut all: Vec<u8> = self.frames.iter().flat_map(named_channels).collect();
+        all.retain(|c| (1..=MOST_CHANNEL).contains(c));
         all.sort_unstable();
         all.dedup();
         all
@@ -157,9 +164,10 @@ fn body(frame: &Frame) -> Vec<u8> {
     }
 }
 
+/// The channels of steps, lists and relabellings, with 0 for an internal step and [`EXIT_CHANNEL`] for termination.
 fn named_channels(frame: &Frame) -> Vec<u8> {
     match frame {
-        Frame::Leaf { triples, .. } => triples.iter().map(|t| t.action / 2).filter(|c| *c > 0).collect(),
+        Frame::Leaf { triples, .. } => triples.iter().map(|t| t.action / 2).collect(),
         Frame::Compose(..) => Vec::new(),
         Frame::Relabel { old, new, .. } => vec![*old, *new],
         Frame::Restrict(_, list) | Frame::Hide(_, list) | Frame::Joint(_, _, list) => list.clone(),

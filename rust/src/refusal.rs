@@ -24,7 +24,7 @@ pub enum Fault {
     LineNumber,
     /// 4: an unknown kind, or a length that its kind can't have.
     Kind,
-    /// 5: a state count, state, action, channel or operand out of range.
+    /// 5: a state count, state, action, channel or operand out of range; so are action 63 and, in a list or relabelling, channel 31.
     Range,
     /// 6: more than [`MAX_BITS`] bits or 64 leaf uses.
     Limits,

@@ -42,7 +42,7 @@ fn work_memory_changes_no_answer() {
     for work in [0, 1, 5, 1000, 9001] {
         let mut table = Table::with_work(4096, work).unwrap();
         let p9: [&[u8]; 2] = [b"000102000201\n0106000001\n", b"000102000201\n"];
-        assert_eq!(shown(&compare(&mut table, p9, LIMIT)), "strong equal 2 | weak equal 2 | 642");
+        assert_eq!(shown(&compare(&mut table, p9, LIMIT)), "strong equal 2 | weak equal 2 | 649");
         assert_eq!(shown(&compare(&mut table, P7, 1)), "strong refused 9 2 0 | weak equal 1 | 495");
     }
 }

@@ -5,11 +5,12 @@ use crate::commands::check::size;
 use crate::dot;
 use crate::expression;
 use crate::files;
-use crate::frames::Frame;
+use crate::frames::{Frame, EXIT};
 use crate::load::{load, Loaded};
 use crate::outcome::{counted, fail, Answer, Outcome, Stopped};
 use crate::reach::{self, MOST, PART};
 use crate::readable;
+use crate::sorts::{self, Sort};
 use crate::words::{channel_list, spelled};
 
 pub const FORM: Form = Form { command: "show", values: &["--line", "--most"], flags: &["--dot"] };
@@ -42,8 +43,10 @@ fn words(loaded: &Loaded) -> String {
         "channels: {}\n\n",
         if numbers.is_empty() { "none".to_string() } else { numbers.join(", ") }
     );
+    let sorts = sorts::of(&loaded.model);
     for (line, frame) in loaded.model.frames.iter().enumerate() {
-        text += &format!("line {line}, {}: {}\n", spelled(&names.process(line)), in_words(loaded, frame));
+        let words = in_words(loaded, frame, &sorts[line]);
+        text += &format!("line {line}, {}: {words}\n", spelled(&names.process(line)));
         if matches!(frame, Frame::Leaf { .. }) {
             text += &readable::leaf(&loaded.model, names, line);
         }
@@ -51,7 +54,8 @@ fn words(loaded: &Loaded) -> String {
     text + &format!("\nthe model: {}\n", expression::of(&loaded.model, names))
 }
 
-fn in_words(loaded: &Loaded, frame: &Frame) -> String {
+/// A line, given the actions that its process may take.
+fn in_words(loaded: &Loaded, frame: &Frame, sort: &Sort) -> String {
     let names = &loaded.names;
     let process = |line: &u8| spelled(&names.process(usize::from(*line)));
     let on = |list: &[u8]| match list {
@@ -64,9 +68,10 @@ fn in_words(loaded: &Loaded, frame: &Frame) -> String {
             format!("a leaf of {states} and {steps}; the first state is the start")
         }
         Frame::Compose(i, j) => format!(
-            "{} and {} composed: either side alone, or an output and an input on one channel together, as tau",
+            "{} and {} composed: either side alone, or an output and an input on one channel together, as tau{}",
             process(i),
-            process(j)
+            process(j),
+            if sort.contains(&EXIT) { "; each side exits alone" } else { "" }
         ),
         Frame::Restrict(i, list) => format!("{} restricted: no steps on {}", process(i), on(list)),
         Frame::Relabel { of, old, new } => {
@@ -74,7 +79,7 @@ fn in_words(loaded: &Loaded, frame: &Frame) -> String {
         }
         Frame::Hide(i, list) => format!("{} hidden: steps on {} become tau", process(i), on(list)),
         Frame::Joint(i, j, list) => format!(
-            "{} and {} joined: on {} both take the same step together, else either side alone",
+            "{} and {} joined: on {} both take the same step together, and they exit only together; else either side alone",
             process(i),
             process(j),
             on(list)

@@ -2,7 +2,7 @@
 
 use crate::arguments::{Form, Given};
 use crate::aut::{self, Aut, Label, Transition};
-use crate::frames::{MOST_STATES, MOST_TRIPLES};
+use crate::frames::{EXIT, MOST_STATES, MOST_TRIPLES};
 use crate::load::{load, Loaded};
 use crate::names::Names;
 use crate::outcome::{counted, Answer};
@@ -53,6 +53,7 @@ fn label(action: u8, names: &Names) -> Label {
     let name = names.channel(channel);
     match (action % 2, names.is_gate(channel)) {
         _ if action == 0 => Label::Internal,
+        _ if action == EXIT => Label::Exit,
         (0, true) => Label::Gate(name),
         (0, false) => Label::Output(name),
         _ => Label::Input(name),

@@ -1,6 +1,7 @@
 //! What the tests share: running the command, folders for files, generated models.
 #![allow(dead_code)]
 
+use seipolku::frames::{EXIT, MOST_CHANNEL};
 use std::fs;
 use std::path::{Path, PathBuf};
 use std::process::{Command, Output};
@@ -144,13 +145,17 @@ fn leaf(random: &mut Random, budget: u32) -> (Vec<u8>, u32, usize) {
     let mut body = vec![1, states as u8];
     for _ in 0..random.below(2 * states + 2).min(84) {
         let direction = random.below(2) as u8;
-        let action = if random.below(4) == 0 { 0 } else { 2 * channel(random) + direction };
+        let action = match random.below(8) {
+            0 | 1 => 0,
+            2 => EXIT,
+            _ => 2 * channel(random) + direction,
+        };
         body.extend([random.below(states) as u8, action, random.below(states) as u8]);
     }
     (body, usize::BITS - (states - 1).leading_zeros(), 1)
 }
 
 fn channel(random: &mut Random) -> u8 {
-    let any = 1 + random.below(31) as u8;
-    *random.pick(&[1, 2, 3, 1, 2, 3, any, 31])
+    let any = 1 + random.below(usize::from(MOST_CHANNEL)) as u8;
+    *random.pick(&[1, 2, 3, 1, 2, 3, any, MOST_CHANNEL])
 }
