@@ -1,7 +1,7 @@
 //! Aldebaran files (.aut): reading and writing.
 
 use crate::outcome::{counted, misplaced, Misplaced};
-use crate::words::{EXIT_DIRECTED, EXIT_WORD};
+use crate::words::{exit_with_values, EXIT_DIRECTED, EXIT_VALUED, EXIT_WORD};
 
 #[derive(Clone, Debug, PartialEq, Eq, PartialOrd, Ord)]
 pub enum Label {
@@ -42,6 +42,9 @@ impl Label {
         }
         if text == EXIT_WORD {
             return Ok(Label::Exit);
+        }
+        if exit_with_values(text) {
+            return Err(EXIT_VALUED.into());
         }
         if let Some(c) = text.chars().find(|c| c.is_control()) {
             return Err(format!("the label has the control character {}; leave it out.", c.escape_unicode()));

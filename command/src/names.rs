@@ -7,7 +7,7 @@ use crate::outcome::{misplaced, Misplaced};
 use crate::sha256;
 use crate::sorts;
 use crate::tokens::{tokens, Placed};
-use crate::words::{spelled, EXIT_WORD};
+use crate::words::{exit_with_values, spelled, EXIT_VALUED, EXIT_WORD};
 use std::collections::{BTreeMap, BTreeSet};
 
 #[derive(Clone, Debug, PartialEq, Eq)]
@@ -29,6 +29,9 @@ pub struct Names {
 pub fn unfit(name: &str, gate: bool) -> Option<&'static str> {
     if name == EXIT_WORD {
         return Some("exit is the termination event, and no channel or gate has this name; leave it out, or choose another name.");
+    }
+    if exit_with_values(name) {
+        return Some(EXIT_VALUED);
     }
     if name.trim() != name {
         return Some("a channel's name can't start or end with a space; leave it out.");

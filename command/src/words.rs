@@ -42,6 +42,16 @@ pub const EXIT_WORD: &str = "exit";
 pub const EXIT_DIRECTED: &str =
     "exit is the termination event and no channel, so it has no direction; write exit alone.";
 
+/// What is said of it with values.
+pub const EXIT_VALUED: &str =
+    "exit with values (as in exit !1) is not known here: the termination event carries none; write exit alone, or choose another name.";
+
+/// Whether a label is the termination event with values, as CADP writes it: `exit !1`.
+pub fn exit_with_values(label: &str) -> bool {
+    let rest = label.strip_prefix(EXIT_WORD).map(str::trim_start);
+    rest.is_some_and(|values| values.len() > 1 && values.starts_with(['!', '?']))
+}
+
 /// The actions that are on no channel with a name.
 fn without_channel(number: u8) -> Option<String> {
     match number {

@@ -110,12 +110,12 @@ fn labels() {
     let folder = Folder::new();
     folder.write(
         "m.aut",
-        "des (0, 4, 2)\n(0, exit, 1)\n(0, \"exit\", 0)\n(1, \" exit \", 1)\n(1, \"exit !1\", 0)\n",
+        "des (0, 4, 2)\n(0, exit, 1)\n(0, \"exit\", 0)\n(1, \" exit \", 1)\n(1, \"exit door\", 0)\n",
     );
     folder.done(&["from-aut", "m.aut"]);
     assert_eq!(folder.read("m.hex"), "000102003E01003E00013E01010200\n");
-    assert!(folder.read("m.names").contains("\ngate 1 \"exit !1\"\n"));
-    let written = "des (0, 4, 2)\n(0, exit, 0)\n(0, exit, 1)\n(1, \"exit !1\", 0)\n(1, exit, 1)\n";
+    assert!(folder.read("m.names").contains("\ngate 1 \"exit door\"\n"));
+    let written = "des (0, 4, 2)\n(0, exit, 0)\n(0, exit, 1)\n(1, \"exit door\", 0)\n(1, exit, 1)\n";
     assert_eq!(folder.done(&["to-aut", "m.hex"]), written);
 }
 

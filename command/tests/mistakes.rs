@@ -225,16 +225,23 @@ fn exit_in_steps() {
     says("exit exit", "8: an action is tau, exit, out CHANNEL");
 }
 
+const VALUED: &str =
+    "exit with values (as in exit !1) is not known here: the termination event carries none; write exit alone, or choose another name.";
+
 #[test]
 fn exit_in_aut_files() {
-    for label in ["exit!", "!exit", "exit?", "?exit", "\"exit!\"", "\"? exit\"", "exit !"] {
+    let directed = ["exit!", "!exit", "exit?", "?exit", "\"exit!\"", "\"? exit\"", "exit !"];
+    let valued = ["exit !1", "\"exit !1 !2\"", "exit!TRUE", "exit ?x"];
+    let labels =
+        directed.map(|label| (label, DIRECTED)).into_iter().chain(valued.map(|label| (label, VALUED)));
+    for (label, sentence) in labels {
         let text = format!("des (0, 2, 2)\n(0, exit, 1)\n(0, {label}, 1)\n");
-        says("m.aut", &text, &["from-aut", "m.aut"], &format!("m.aut, line 3, column 5: {DIRECTED}"));
+        says("m.aut", &text, &["from-aut", "m.aut"], &format!("m.aut, line 3, column 5: {sentence}"));
         let folder = Folder::new();
         folder.write("m.aut", text);
         folder.write("m.model", "leaf a from \"m.aut\"\n");
         let ran = folder.run(&["build", "m.model"]);
-        let expected = format!("m.model, line 1, column 13: m.aut, line 3, column 5: {DIRECTED}");
+        let expected = format!("m.model, line 1, column 13: m.aut, line 3, column 5: {sentence}");
         assert!(ran.status == 3 && ran.err.contains(&expected), "{}", ran.err);
     }
 }
@@ -251,6 +258,7 @@ fn exit_in_name_tables() {
         ("channel 31 exit", 9, number),
         ("channel 1 exit", 11, NAMED),
         ("gate 1 \"exit\"", 8, NAMED),
+        ("channel 1 \"exit !1\"", 11, VALUED),
     ] {
         folder.write("m.names", format!("{line}\n"));
         let expected = format!("m.names, line 1, column {column}: {sentence}");
