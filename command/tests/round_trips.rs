@@ -148,7 +148,7 @@ const LABELS: &[&str] = &[
     "x y?",
     "é!",
     "!?",
-    "exit !1",
+    "exit 1",
     "exits",
 ];
 
