@@ -210,6 +210,7 @@ fn termination() {
 
 fn termination_listed() {
     case(b"restrict channels 1, 31 and 2\n000102003E01\n010300011F02\n");
+    case(b"restrict channels 1 and 31\n000102003E01\n010300011F\n");
     case(b"hide channel 31\n000102003E01\n0105001F\n");
     case(b"hide channels 1 and 31\n000102003E01\n010500011F\n");
     case(b"joint channel 31\n000102003E01\n010600001F\n");
@@ -217,6 +218,13 @@ fn termination_listed() {
     case(b"relabel from 31\n000102003E01\n0104001F01\n");
     case(b"relabel to 31\n000102003E01\n010400011F\n");
     case(b"relabel 31 to 31\n000102003E01\n0104001F1F\n");
+}
+
+fn termination_and_others() {
+    case(b"joint channels 31 and 1\n000102003E01\n010600001F01\n");
+    case(b"channel 31 in an unused line\n000102003E01\n0103001F\n020101\n");
+    case(b"channel 31 before 25 bits\n000140\n01020000\n02020101\n030102\n040602031F\n");
+    case(b"a relabelling too long before channel 31\n000102003E01\n010400011F01\n");
 }
 
 fn ninth() {
@@ -283,6 +291,7 @@ fn main() {
     eighth();
     termination();
     termination_listed();
+    termination_and_others();
     ninth();
     bits();
     unused_bits();

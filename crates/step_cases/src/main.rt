@@ -178,7 +178,41 @@ fn terminated() {
     show(b"compose: exits pass", b"000102003E01\n01020000\n", 4);
 }
 
+fn terminated_beside() {
+    show(
+        b"joint: exit together, channel 30 alone",
+        b"000102003C01003D01003E01\n01060000\n",
+        4,
+    );
+    show(
+        b"compose: channel 30 meets, exit does not",
+        b"000102003C01003E01\n010102003D01003E01\n02020001\n",
+        4,
+    );
+    show(b"steps after exit", b"000103003E01010202\n01060000\n", 16);
+    show(
+        b"joint of three that exit",
+        b"000102003E01\n01060000\n02060100\n",
+        8,
+    );
+}
+
 fn terminated_under() {
+    show(
+        b"hide channel 30, not exit",
+        b"000102003C01003D01003E01\n0105001E\n",
+        2,
+    );
+    show(
+        b"restrict channel 30, not exit",
+        b"000102003C01003D01003E01\n0103001E\n",
+        2,
+    );
+    show(
+        b"relabel channel 30, not exit",
+        b"000102003C01003D01003E01\n0104001E01\n",
+        2,
+    );
     show(
         b"restrict, relabel and hide of exit",
         b"000104000201013E02020403\n01030002\n0204010103\n03050203\n",
@@ -221,6 +255,7 @@ fn main() {
     relabelled();
     hidden_and_joint();
     terminated();
+    terminated_beside();
     terminated_under();
     nested();
 }
