@@ -63,6 +63,9 @@ enum {
     SEIPOLKU_MODEL_STATES = 3
 };
 
+/* The action of termination (ISO 8807's exit), the only one of channel 31. Lists and relabellings name channels 1 to 30. */
+enum { SEIPOLKU_EXIT = 62 };
+
 /* Limits. A line's process has at most so many bits of state, so that codes are below 2^24; levels of nodes go from 0 to the last one; a table
  * has at least 2 and at most so many entries. */
 enum {

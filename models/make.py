@@ -80,7 +80,7 @@ class Model:
             body += [states.index(source), self.family.action(word), states.index(target)]
         self.named.append(f"process {len(self.frames)} {spelled(name)}")
         self.named += [f"state {len(self.frames)} {i} {spelled(s)}" for i, s in enumerate(states)]
-        return self.add(body, f"leaf {name}: " + ", ".join(f"{i} {s}" for i, s in enumerate(states)))
+        return self.add(body, f"leaf {name}: " + ", ".join(f"{i} {spelled(s)}" for i, s in enumerate(states)))
 
     def compose(self, *lines):
         total = lines[0]

@@ -61,12 +61,10 @@ pub fn basis(models: &[Loaded; 2], by_number: bool) -> Result<Basis, Failure> {
     Ok(Basis { named, said: by_number || !notes.is_empty(), notes })
 }
 
-/// Whether there is no name table, or it leaves out a channel that the model has.
+/// Whether the model has a channel that no name table names.
 fn lacks(model: &Loaded) -> bool {
-    match &model.table {
-        None => true,
-        Some(names) => model.model.channels().iter().any(|c| !names.channels.contains_key(c)),
-    }
+    let named = |c: &u8| model.table.as_ref().is_some_and(|names| names.channels.contains_key(c));
+    !model.model.channels().iter().all(named)
 }
 
 /// Numbers with two names, names with two numbers, and names that are a gate on one side only.

@@ -127,7 +127,7 @@ fn wrong(role: Role, byte: u8, number: u64, bytes: &[u8]) -> Option<String> {
             "action {byte}; actions are 0 (tau), {EXIT} (exit), and 2c (output) and 2c + 1 (input) for a channel c from 1 to {MOST_CHANNEL}"
         ),
         Role::Channel if byte == EXIT_CHANNEL => {
-            format!("channel {byte}; it is the termination event, which no list or relabelling names")
+            format!("channel {byte}; it is the termination event, exit, which no list or relabelling names")
         }
         Role::Channel => format!("channel {byte}; channels go from 1 to {MOST_CHANNEL}"),
         Role::Operand => format!("line {byte}; an operand is a line before this one"),

@@ -178,17 +178,17 @@ With --text it goes back: the readable form of a model text with its names. Back
   gates put, get                         channels without inputs, whose outputs are written without 'out'
 
   leaf journal                           or: leaf journal from \"journal.aut\"
-    states empty, pending, closed        the first one is the start; without this line, as the steps name them
+    states empty, pending, parked        the first one is the start; without this line, as the steps name them
     empty -- in move --> pending
     pending -- out done --> empty
     pending -- tau --> empty
-    empty -- exit --> closed             termination, no channel: never declared and in no list
+    empty -- exit --> parked             termination, no channel: never declared and in no list
 
-  both = compose journal supply          either side alone, also exit, or output and input together as tau; three or more from the left
+  both = compose journal supply          either side alone, also by exit, or output and input together as tau; three or more from the left
   closed = restrict both on drop, up     no steps on these channels
   other = relabel cell move to log, done to go   one after the other
   quiet = hide both on drop              steps on these channels become tau
-  model = joint one other on put, get    on these channels both take the same step together, and exit always
+  model = joint one other on put, get    on these channels both take the same step together; they exit only together
 
 The last definition is the model. Files given together get one numbering of channels.
 

@@ -28,9 +28,9 @@ pub struct Names {
 /// Why a channel can't have the name: it is the termination event's, or an .aut file, which has no escapes, would give another one back.
 pub fn unfit(name: &str, gate: bool) -> Option<&'static str> {
     if name == EXIT_WORD {
-        return Some("exit is the termination event, and no channel or gate has this name; leave it out, or choose another name.");
+        return Some("exit is the termination event, action 62, and no channel or gate has this name. If it is meant, build the text anew from its source; else choose another name.");
     }
-    if exit_with_values(name) {
+    if exit_with_values(&format!("{name}!")) {
         return Some(EXIT_VALUED);
     }
     if name.trim() != name {

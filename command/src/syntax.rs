@@ -5,7 +5,7 @@ use crate::frames::{EXIT_CHANNEL, MOST_CHANNEL, MOST_STATES};
 use crate::outcome::{misplaced, Misplaced};
 use crate::source::{Act, Body, Declared, Definition, Named, Places, Source, Step};
 use crate::tokens::{tokens, Placed, Token};
-use crate::words::{EXIT_DIRECTED, EXIT_WORD};
+use crate::words::{exit_with_values, EXIT_DIRECTED, EXIT_VALUED, EXIT_WORD};
 
 type Parsed<T> = Result<T, Misplaced>;
 
@@ -15,7 +15,9 @@ pub type Open<'a> = &'a dyn Fn(&str) -> Result<Aut, String>;
 const LINES: &str = "a line is 'channels ..', 'gates ..', 'leaf NAME', 'states ..', a step 'STATE -- out CHANNEL --> STATE', \
                      or 'NAME = OPERATOR ..'";
 
-/// What is said of exit in a list or a relabelling, and where it stands in quotes in the place of a gate.
+/// What is said of exit in a declaration, in a list or a relabelling, and where it stands in quotes in the place of a gate.
+const EXIT_DECLARED: &str =
+    "exit is the termination event, which is never declared; leave it out, or choose another name.";
 const EXIT_LISTED: &str =
     "exit is the termination event and no channel: joint takes it on both sides together, and no list or relabelling names it; leave it out.";
 const EXIT_QUOTED: &str = "exit is the termination event and no gate; write it without quotes.";
@@ -57,7 +59,7 @@ fn parse_line(source: &mut Source, line: &mut Line, open: Open) -> Parsed<()> {
 
 fn declarations(source: &mut Source, line: &mut Line, gate: bool) -> Parsed<()> {
     loop {
-        let channel = line.name("the name of a channel")?;
+        let channel = line.channel("the name of a channel", EXIT_DECLARED)?;
         let number = if line.skip("=") { Some(channel_number(line)?) } else { None };
         source.channels.push(Declared { channel, gate, number });
         line.skip(",");
@@ -261,10 +263,11 @@ impl Line {
 
     /// The name of a channel or gate; exit is none, and gets a sentence.
     fn channel(&mut self, what: &str, exit: &str) -> Parsed<Named> {
-        if self.peek().and_then(Placed::name) == Some(EXIT_WORD) {
-            return self.wrong(exit);
+        match self.peek().and_then(Placed::name) {
+            Some(EXIT_WORD) => self.wrong(exit),
+            Some(name) if exit_with_values(name) => self.wrong(EXIT_VALUED),
+            _ => self.name(what),
         }
-        self.name(what)
     }
 
     fn process(&mut self) -> Parsed<Named> {

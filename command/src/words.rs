@@ -44,7 +44,7 @@ pub const EXIT_DIRECTED: &str =
 
 /// What is said of it with values.
 pub const EXIT_VALUED: &str =
-    "exit with values (as in exit !1) is not known here: the termination event carries none; write exit alone, or choose another name.";
+    "no model text can hold a termination with values (as in exit !1); write exit alone, or choose another name.";
 
 /// Whether a label is the termination event with values, as CADP writes it: `exit !1`.
 pub fn exit_with_values(label: &str) -> bool {

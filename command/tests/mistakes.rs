@@ -170,12 +170,10 @@ fn build_says(text: &str, expected: &str) {
     says("m.model", text, &["build", "m.model"], &format!("m.model, {expected}"));
 }
 
-/// What is said where a channel or gate is to be called exit, or to have its number.
-const NAMED: &str =
-    "exit is the termination event, and no channel or gate has this name; leave it out, or choose another name.";
-
 #[test]
 fn exit_declared() {
+    let declared =
+        "exit is the termination event, which is never declared; leave it out, or choose another name.";
     for line in [
         "channels exit",
         "channels \"exit\"",
@@ -183,12 +181,17 @@ fn exit_declared() {
         "channels exit = 30, b",
         "gates a, exit",
         "gates a, \"exit\" = 7",
+        "gates a, exit = 31",
     ] {
-        build_says(&format!("{line}\nleaf a\n  states s\n"), &format!("line 1, column 10: {NAMED}"));
+        build_says(&format!("{line}\nleaf a\n  states s\n"), &format!("line 1, column 10: {declared}"));
     }
+    for name in ["exit !1", "exit!2"] {
+        build_says(&format!("channels \"{name}\"\n"), &format!("line 1, column 10: {VALUED}"));
+    }
+    // an .aut file would have it as exit!!, which is a termination with values
+    build_says("channels \"exit!\"\nleaf a\n  states s\n", &format!("line 1, column 10: {VALUED}"));
     let number = "31 is the termination event, exit, and no channel's number; write one from 1 to 30, or leave out the '='.";
     build_says("channels a = 31\n", &format!("line 1, column 14: {number}"));
-    build_says("gates a, exit = 31\n", &format!("line 1, column 17: {number}"));
 }
 
 #[test]
@@ -222,11 +225,12 @@ fn exit_in_steps() {
     says("in exit", &format!("11: {DIRECTED}"));
     says("out \"exit\"", &format!("12: {DIRECTED}"));
     says("\"exit\"", "8: exit is the termination event and no gate; write it without quotes.");
+    says("\"exit !1\"", &format!("8: {VALUED}"));
     says("exit exit", "8: an action is tau, exit, out CHANNEL");
 }
 
 const VALUED: &str =
-    "exit with values (as in exit !1) is not known here: the termination event carries none; write exit alone, or choose another name.";
+    "no model text can hold a termination with values (as in exit !1); write exit alone, or choose another name.";
 
 #[test]
 fn exit_in_aut_files() {
@@ -249,6 +253,8 @@ fn exit_in_aut_files() {
 #[test]
 fn exit_in_name_tables() {
     let number = "31 is the termination event, which is always called exit; remove this line.";
+    let named = "exit is the termination event, action 62, and no channel or gate has this name. If it is meant, build the text anew from \
+                 its source; else choose another name.";
     let folder = Folder::new();
     folder.write("m.hex", "000102003E01\n");
     folder.write("n.aut", "des (0, 0, 1)\n");
@@ -256,9 +262,10 @@ fn exit_in_name_tables() {
         ("channel 31 a", 9, number),
         ("gate 31 a", 6, number),
         ("channel 31 exit", 9, number),
-        ("channel 1 exit", 11, NAMED),
-        ("gate 1 \"exit\"", 8, NAMED),
+        ("channel 1 exit", 11, named),
+        ("gate 1 \"exit\"", 8, named),
         ("channel 1 \"exit !1\"", 11, VALUED),
+        ("channel 1 \"exit!\"", 11, VALUED),
     ] {
         folder.write("m.names", format!("{line}\n"));
         let expected = format!("m.names, line 1, column {column}: {sentence}");

@@ -17,8 +17,8 @@ fn spelled(name: &str) -> String {
 }
 
 /// Names that only a channel with directions may have, and those that no channel may have.
-const DIRECTED: &[&str] = &["tau", "i", "x!", "?y", "exit!"];
-const NO_CHANNEL: &[&str] = &[" z ", "exit"];
+const DIRECTED: &[&str] = &["tau", "i", "x!", "?y"];
+const NO_CHANNEL: &[&str] = &[" z ", "exit", "exit!"];
 
 /// The channels that may have inputs: those of a leaf's inputs, and those that others become.
 fn inputs(text: &str) -> BTreeSet<u8> {
