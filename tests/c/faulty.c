@@ -179,8 +179,9 @@ static void memory_fault(uint64_t kind, COMPARE_ARGUMENTS) {
     if (fault("level touched") && refused && level_len) level[0]++;
     if (fault("text written") && left_len) bytes[0] = bytes[0];
     if (fault("text read past its end")) (void)bytes[left_len];
-    if (fault("work read past its end")) (void)((volatile uint32_t *)work)[work_len];
-    if (fault("work written past its end")) ((volatile uint32_t *)work)[work_len] = 0;
+    /* an empty slice has no block to run past the end of */
+    if (fault("work read past its end") && work_len) (void)((volatile uint32_t *)work)[work_len];
+    if (fault("work written past its end") && work_len) ((volatile uint32_t *)work)[work_len] = 0;
     if (fault("answer written past its end")) ((volatile uint64_t *)answer)[words] = 0;
     if (fault("work touched when short") && kind == SHORT && work_len) work[0]++;
     if (kind != ANSWERED) return;
