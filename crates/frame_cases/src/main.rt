@@ -227,6 +227,44 @@ fn termination_and_others() {
     case(b"a relabelling too long before channel 31\n000102003E01\n010400011F01\n");
 }
 
+fn enabling() {
+    case(b"enabling of nothing\n000102003E01\n0107\n");
+    case(b"enabling of one operand\n000102003E01\n010700\n");
+    case(b"enabling of three\n000102003E01\n0107000000\n");
+    case(b"enabling of itself\n000102003E01\n01070001\n");
+    case(b"enabling of a later line\n000102003E01\n01070200\n020101\n");
+    case(b"enabling of 3 and 5 states\n000103\n010105\n02070001\n");
+    case(b"enabling of 24 bits\n000140\n010120\n02020000\n03020001\n04070203\n");
+    case(b"enabling of 25 bits\n000140\n01020000\n02070101\n");
+    case(b"enabling of itself before 25 bits\n000140\n01020000\n02020101\n03070203\n");
+}
+
+fn disabling() {
+    case(b"disabling of one operand\n000102003E01\n010800\n");
+    case(b"disabling of three\n000102003E01\n0108000000\n");
+    case(b"disabling of itself\n000102003E01\n01080100\n");
+    case(b"disabling of 3 and 5 states\n000103\n010105\n02080001\n");
+    case(b"disabling of 5 and 3 states\n000103\n010105\n02080100\n");
+    case(b"disabling of 24 bits\n000140\n010120\n02020001\n03080202\n");
+    case(b"disabling of 25 bits\n000140\n010120\n02020000\n03020001\n04080203\n");
+    case(
+        b"bad unused line: disabling of 25 bits\n000140\n010120\n02020000\n03020001\n04080203\n050101\n",
+    );
+}
+
+fn enabling_and_disabling() {
+    case(
+        b"disabling of an enabling, enabling of both\n000102003E01\n01070000\n02080100\n03070201\n",
+    );
+    case(
+        b"enabling of 64 leaf uses\n000101\n01020000\n02020101\n03020202\n04020303\n05020404\n06070505\n",
+    );
+    case(
+        b"disabling of 65 leaf uses\n000101\n01020000\n02020101\n03020202\n04020303\n05020404\n06020505\n07080600\n",
+    );
+    case(b"lowest number counts: a disabling too long before 5\n000102003E01\n0108010101\n");
+}
+
 fn ninth() {
     case(b"operand of itself\n000102000201\n01020001\n");
     case(b"operand of the first line\n00020000\n");
@@ -292,6 +330,9 @@ fn main() {
     termination();
     termination_listed();
     termination_and_others();
+    enabling();
+    disabling();
+    enabling_and_disabling();
     ninth();
     bits();
     unused_bits();

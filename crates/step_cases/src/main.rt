@@ -230,6 +230,71 @@ fn terminated_under() {
     );
 }
 
+fn enabled() {
+    show(
+        b"enabling",
+        b"000103000201013E02\n010102000401\n02070001\n",
+        16,
+    );
+    show(
+        b"enabling: two exits of the first",
+        b"000103003E01003E02\n010102000401\n02070001\n",
+        16,
+    );
+    show(
+        b"enabling: the second exits",
+        b"000102003E01\n010102003E01\n02070001\n",
+        8,
+    );
+    show(
+        b"enabling: the first never exits",
+        b"000102000201\n010102000401\n02070001\n",
+        8,
+    );
+}
+
+fn disabled() {
+    show(b"disabling", b"000102000201\n010102000401\n02080001\n", 16);
+    show(
+        b"disabling: the first exits, and steps on",
+        b"000103003E01010202\n010102000401\n02080001\n",
+        32,
+    );
+    show(
+        b"disabling: the second exits",
+        b"000102000201\n010102003E01\n02080001\n",
+        16,
+    );
+    show(
+        b"disabling: the second's first step is internal",
+        b"000102000201\n010103000001010402\n02080001\n",
+        32,
+    );
+}
+
+fn sequenced() {
+    show(
+        b"disabling, then a line again",
+        b"000102003E01\n01080000\n02070100\n",
+        64,
+    );
+    show(
+        b"enabling, disabled",
+        b"000102003E01\n01070000\n020101000400\n03080102\n",
+        32,
+    );
+    show(
+        b"joint of an enabling and a line that exits",
+        b"000102003E01\n01070000\n02060100\n",
+        16,
+    );
+    show(
+        b"enabling of compositions, hidden",
+        b"000102000201013E00\n010102000301\n02020001\n03070201\n04050301\n",
+        16,
+    );
+}
+
 fn nested() {
     show(
         b"all operators nested",
@@ -257,5 +322,8 @@ fn main() {
     terminated();
     terminated_beside();
     terminated_under();
+    enabled();
+    disabled();
+    sequenced();
     nested();
 }
