@@ -175,7 +175,7 @@ pub fn told(read: &Result<Model, Refusal>) -> [u64; 7] {
     match read {
         Ok(model) => {
             let last = model.last();
-            [0, last.bits().into(), model.lines.len() as u64, last.uses().into(), last.states(), 0, 0]
+            [0, last.bits.into(), model.lines.len() as u64, last.uses.into(), last.states, 0, 0]
         }
         Err(refusal) => [2, refusal.number.into(), 0, refusal.line as u64, 0, 0, 0],
     }

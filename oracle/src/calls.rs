@@ -1,7 +1,7 @@
 //! Generated comparisons with all that is lent to them, and their expected answers.
 
 use crate::answer::{known, table_fits, Answer, Known, MAX_TABLE, UNFIT, WORDS};
-use crate::generate::{chain_pair, malformed, pair, text, wide_pair};
+use crate::generate::{chain_pair, malformed, pair, sequenced_pair, text, wide_pair, Frame};
 use crate::random::Random;
 use crate::reader::read;
 
@@ -81,19 +81,20 @@ impl Pair {
 
     /// The product of the two numbers of states; 1 if a text is refused.
     fn product(&self) -> u64 {
-        let states = |text: &[u8]| read(text).map_or(1, |model| model.last().states());
+        let states = |text: &[u8]| read(text).map_or(1, |model| model.last().states);
         states(&self.left) * states(&self.right)
     }
 }
 
-/// A pair of any sort; in one of eight a text is likely refused.
+/// A pair of any sort, most with an enabling or disabling; in one of eight a text is likely refused.
 pub fn any_pair(random: &mut Random) -> Pair {
     let budget = random.pick(&[2, 3, 4, 5, 6]);
     let (left, right) = match random.below(128) {
         0 | 1 => pair(random, 9),
         2 | 3 => chain_pair(random),
-        4 => wide_pair(random),
-        _ => pair(random, budget),
+        4 | 5 => wide_pair(random),
+        6..=63 => pair(random, budget),
+        _ => sequenced_pair(random, budget + 1),
     };
     let (mut left, mut right) = (text(&left), text(&right));
     match random.below(24) {
@@ -108,7 +109,18 @@ pub fn any_pair(random: &mut Random) -> Pair {
 /// A pair of small accepted models and a call after which all look-ups are made; by some a mode has no verdict.
 pub fn shown(random: &mut Random) -> (Pair, Call) {
     let budget = random.pick(&[2, 2, 3, 3, 3, 4]);
-    let (left, right) = pair(random, budget);
+    let models = pair(random, budget);
+    shown_after(random, models)
+}
+
+/// The same of a pair that has an enabling or disabling.
+pub fn sequenced(random: &mut Random) -> (Pair, Call) {
+    let budget = random.pick(&[3, 4, 4, 5, 6, 7]);
+    let models = sequenced_pair(random, budget);
+    shown_after(random, models)
+}
+
+fn shown_after(random: &mut Random, (left, right): (Vec<Frame>, Vec<Frame>)) -> (Pair, Call) {
     let pair = Pair::new(text(&left), text(&right));
     let call = if random.once_in(2) { early(random, &pair) } else { fitting(random, &pair) };
     (pair, call)

@@ -233,6 +233,14 @@ impl Diagram {
         self.remember(key, result)
     }
 
+    /// The function that holds where the number read from `levels` (ascending), lowest bit first, is this one.
+    pub fn number(&mut self, levels: &[u8], number: u32) -> Function {
+        levels.iter().enumerate().rev().fold(TRUE, |rest, (bit, &level)| match number >> bit & 1 {
+            0 => self.node(level, rest, FALSE),
+            _ => self.node(level, FALSE, rest),
+        })
+    }
+
     /// The function that holds where `holds` does of the number read from `levels` (ascending),
     /// lowest bit first.
     pub fn tabulate(&mut self, levels: &[u8], holds: &dyn Fn(u32) -> bool) -> Function {

@@ -3,6 +3,7 @@
 use crate::answer::{Answer, MAX_TABLE};
 use crate::model::{width, EXIT, EXIT_CHANNEL, MAX_BITS, MAX_USES, MOST_CHANNEL, TAU};
 use crate::random::Random;
+use crate::reader::read;
 use crate::vectors::Case;
 
 pub type Frame = Vec<u8>;
@@ -13,6 +14,22 @@ const RESTRICT: u8 = 3;
 const RELABEL: u8 = 4;
 const HIDE: u8 = 5;
 const JOINT: u8 = 6;
+const ENABLE: u8 = 7;
+const DISABLE: u8 = 8;
+/// The first kind that there is not.
+const UNKNOWN: u8 = 9;
+
+/// The kinds with two operands.
+const BINARY: [u8; 4] = [COMPOSE, JOINT, ENABLE, DISABLE];
+
+/// The bits that a line of this kind has below those of its operands.
+fn added(kind: u8) -> u32 {
+    match kind {
+        ENABLE => 1,
+        DISABLE => 2,
+        _ => 0,
+    }
+}
 
 pub const LIMIT: u64 = 1_000_000;
 pub const LENGTH: usize = 1 << 16;
@@ -44,15 +61,19 @@ pub fn model(random: &mut Random, budget: u32) -> Vec<Frame> {
 }
 
 /// A model with a line of exactly so many bits: leaves joined one by one, in half of the models most of them without
-/// steps, so that their list is small. In one of three a small last line follows, which does not use them.
+/// steps, so that their list is small. In half of the models some are joined by enablings and disablings. In one of three a
+/// small last line follows, which does not use them.
 pub fn wide(random: &mut Random, bits: u32) -> Vec<Frame> {
     let mut builder = Builder::new(random, bits);
     let triples: &[usize] = if builder.random.once_in(2) { &[0, 0, 0, 0, 1] } else { &[0, 1, 2] };
+    let kinds: &[u8] = if builder.random.once_in(2) { &BINARY } else { &[COMPOSE, JOINT] };
     let mut joined = builder.add_narrow_leaf(bits, triples);
     while builder.bits[joined] < bits {
-        let leaf = builder.add_narrow_leaf(bits - builder.bits[joined], triples);
-        let kind = builder.random.pick(&[COMPOSE, JOINT]);
-        let (body, sum) = builder.binary(kind, joined, leaf);
+        let kind = builder.random.pick(kinds);
+        let Some(most) = (bits - builder.bits[joined]).checked_sub(added(kind)) else { continue };
+        let leaf = builder.add_narrow_leaf(most, triples);
+        let (i, j) = in_any_order(builder.random, joined, leaf);
+        let (body, sum) = builder.binary(kind, i, j);
         joined = builder.add(body, sum);
     }
     if builder.random.once_in(3) {
@@ -75,63 +96,86 @@ struct Builder<'a> {
     /// Whether some leaves have exit steps, and whether this one has.
     exits: bool,
     leaf_exits: bool,
+    /// Whether many lines are enablings and disablings.
+    sequences: bool,
     budget: u32,
     frames: Vec<Frame>,
     /// The bits and the leaf uses of each line.
     bits: Vec<u32>,
     uses: Vec<u32>,
+    /// For each line, whether leaves below it have exits that it may show.
+    exiting: Vec<bool>,
 }
 
 impl<'a> Builder<'a> {
     fn new(random: &'a mut Random, budget: u32) -> Self {
         let palette: Vec<u8> = (0..1 + random.below(3)).map(|_| channel(random)).collect();
-        let (quiet, exits) = (random.once_in(4), !random.once_in(4));
+        let (quiet, sequences) = (random.once_in(4), random.once_in(2));
+        let exits = !random.once_in(if sequences { 8 } else { 4 });
         Builder {
             random,
             palette,
             quiet,
             exits,
             leaf_exits: false,
+            sequences,
             budget,
             frames: vec![],
             bits: vec![],
             uses: vec![],
+            exiting: vec![],
         }
     }
 
     /// Adds a line with this frame but for its number, which is returned.
     fn add(&mut self, body: Frame, bits: u32) -> usize {
         let number = self.frames.len();
-        let uses = |place: usize| self.uses[usize::from(body[place])];
-        self.uses.push(match body[0] {
-            LEAF => 1,
-            COMPOSE | JOINT => uses(1) + uses(2),
-            _ => uses(1),
-        });
+        let operand = |place: usize| usize::from(body[place]);
+        let (uses, exiting) = match body[0] {
+            LEAF => (1, body[2..].chunks(3).any(|triple| triple[1] == EXIT)),
+            kind if BINARY.contains(&kind) => {
+                let (i, j) = (operand(1), operand(2));
+                let exiting = match kind {
+                    ENABLE => self.exiting[j],
+                    JOINT => self.exiting[i] && self.exiting[j],
+                    _ => self.exiting[i] || self.exiting[j],
+                };
+                (self.uses[i] + self.uses[j], exiting)
+            }
+            _ => (self.uses[operand(1)], self.exiting[operand(1)]),
+        };
+        self.uses.push(uses);
+        self.exiting.push(exiting);
         self.frames.push([vec![number as u8], body].concat());
         self.bits.push(bits);
         number
     }
 
     fn add_line(&mut self) {
-        let kind = self.random.pick(&[LEAF, LEAF, COMPOSE, COMPOSE, RESTRICT, RELABEL, HIDE, JOINT, JOINT]);
+        let plain = [LEAF, LEAF, COMPOSE, COMPOSE, RESTRICT, RELABEL, HIDE, JOINT, JOINT];
+        let sequence = self.random.pick(&[ENABLE, DISABLE]);
+        let plain = self.random.pick(&plain);
+        let kind = if self.sequences { self.random.pick(&[plain, sequence]) } else { plain };
         let (body, bits) = match kind {
             _ if self.frames.is_empty() => self.leaf(),
-            COMPOSE | JOINT => match self.two_operands() {
+            RESTRICT | HIDE | RELABEL => self.unary(kind),
+            LEAF => self.leaf(),
+            _ => match self.two_operands(kind) {
                 Some((i, j)) => self.binary(kind, i, j),
                 None => self.leaf(),
             },
-            RESTRICT | HIDE | RELABEL => self.unary(kind),
-            _ => self.leaf(),
         };
         self.add(body, bits);
     }
 
-    /// A leaf of 1 to `most` bits, mostly 1, with one of these numbers of triples.
+    /// A leaf of 1 to `most` bits, mostly 1, or of none if `most` is 0, with one of these numbers of triples.
     fn add_narrow_leaf(&mut self, most: u32, triples: &[usize]) -> usize {
-        let any = 1 + self.random.below(most.min(6) as usize) as u32;
-        let bits = self.random.pick(&[1, 1, any]);
-        let states = (1 << (bits - 1)) + 1 + self.random.below(1 << (bits - 1)) as u8;
+        let any = 1 + self.random.below(most.clamp(1, 6) as usize) as u32;
+        let bits = self.random.pick(&[1, 1, any]).min(most);
+        let states = match bits {
+            0 => 1,
+            _ => (1 << (bits - 1)) + 1 + self.random.below(1 << (bits - 1)) as u8,
+        };
         let mut body = self.new_leaf(states);
         for _ in 0..self.random.pick(triples) {
             body.extend(self.triple(states));
@@ -146,6 +190,9 @@ impl<'a> Builder<'a> {
         let mut body = self.new_leaf(states);
         if self.random.once_in(4) {
             body.extend(self.chain(states));
+        }
+        if self.sequences && self.leaf_exits && self.random.once_in(2) {
+            body.extend([0, EXIT, self.random.below(states.into()) as u8]);
         }
         for _ in 0..self.random.below(7) {
             body.extend(self.triple(states));
@@ -188,18 +235,23 @@ impl<'a> Builder<'a> {
         self.random.pick(&[newest, newest, any])
     }
 
-    fn two_operands(&mut self) -> Option<(usize, usize)> {
+    /// The first of an enabling or disabling is mostly one that exits, if one of the two does.
+    fn two_operands(&mut self, kind: u8) -> Option<(usize, usize)> {
         let i = self.operand();
         let any = self.random.below(self.frames.len());
         let j = self.random.pick(&[i, any, any, any]);
-        let (i, j) = if self.random.once_in(2) { (i, j) } else { (j, i) };
-        let fit = self.bits[i] + self.bits[j] <= self.budget && self.uses[i] + self.uses[j] <= MAX_USES;
+        let (mut i, mut j) = in_any_order(self.random, i, j);
+        if added(kind) > 0 && !self.exiting[i] && !self.random.once_in(4) {
+            (i, j) = (j, i);
+        }
+        let bits = added(kind) + self.bits[i] + self.bits[j];
+        let fit = bits <= self.budget && self.uses[i] + self.uses[j] <= MAX_USES;
         fit.then_some((i, j))
     }
 
     fn binary(&mut self, kind: u8, i: usize, j: usize) -> (Frame, u32) {
         let list = if kind == JOINT { self.channel_list() } else { vec![] };
-        ([vec![kind, i as u8, j as u8], list].concat(), self.bits[i] + self.bits[j])
+        ([vec![kind, i as u8, j as u8], list].concat(), added(kind) + self.bits[i] + self.bits[j])
     }
 
     fn unary(&mut self, kind: u8) -> (Frame, u32) {
@@ -228,7 +280,7 @@ pub fn variant(random: &mut Random, frames: &[Frame]) -> Vec<Frame> {
     let newest = frames.len() as u8 - 1;
     let next = frames.len() as u8;
     let place = random.below(frames.len());
-    match random.below(9) {
+    match random.below(12) {
         0 => changed.push(vec![next, RESTRICT, newest]),
         1 => changed.push(vec![next, RELABEL, newest, 1, 1]),
         2 => changed.push(vec![next, HIDE, newest]),
@@ -236,13 +288,26 @@ pub fn variant(random: &mut Random, frames: &[Frame]) -> Vec<Frame> {
         4 => shuffle_triples(random, &mut changed[place]),
         5 => drop_triple(&mut changed[place]),
         6 | 7 => redirect_triple(random, &mut changed[place]),
+        8 | 9 => changed.extend(around(random, newest)),
         _ => {}
     }
     changed
 }
 
+/// What is put around the newest line: an enabling or disabling that leaves it equal but for τ steps, or mostly so.
+fn around(random: &mut Random, newest: u8) -> [Frame; 2] {
+    let (stop, exit) = (vec![newest + 1, LEAF, 1], vec![newest + 1, LEAF, 1, 0, EXIT, 0]);
+    let last = |kind: u8, i: u8, j: u8| vec![newest + 2, kind, i, j];
+    match random.below(4) {
+        0 => [exit, last(ENABLE, newest + 1, newest)],
+        1 => [exit, last(ENABLE, newest, newest + 1)],
+        2 => [stop, last(DISABLE, newest + 1, newest)],
+        _ => [stop, last(DISABLE, newest, newest + 1)],
+    }
+}
+
 fn swap_operands(frame: &mut Frame) {
-    if matches!(frame[1], COMPOSE | JOINT) {
+    if BINARY.contains(&frame[1]) {
         frame.swap(2, 3);
     }
 }
@@ -279,6 +344,24 @@ pub fn pair(random: &mut Random, budget: u32) -> (Vec<Frame>, Vec<Frame>) {
     }
     let other = (0..changes).fold(one.clone(), |frames, _| variant(random, &frames));
     in_any_order(random, one, other)
+}
+
+/// Two accepted models, a used line of which is an enabling or disabling.
+pub fn sequenced_pair(random: &mut Random, budget: u32) -> (Vec<Frame>, Vec<Frame>) {
+    loop {
+        let (left, right) = pair(random, budget);
+        if has_sequence(&text(&left)) || has_sequence(&text(&right)) {
+            return (left, right);
+        }
+    }
+}
+
+/// Whether the text is accepted and its last line is an enabling or disabling, or uses one.
+pub fn has_sequence(text: &[u8]) -> bool {
+    read(text).is_ok_and(|model| {
+        let used = model.used();
+        model.lines.iter().zip(used).any(|(line, used)| used && line.process.added_bits() > 0)
+    })
 }
 
 fn in_any_order<T>(random: &mut Random, one: T, other: T) -> (T, T) {
@@ -371,7 +454,7 @@ pub fn case(random: &mut Random) -> Case {
 /// A text made from an accepted one so that a refusal 1 to 6 is likely due, or of random bytes.
 pub fn malformed(random: &mut Random) -> Vec<u8> {
     let frames = model(random, 6);
-    match random.below(14) {
+    match random.below(16) {
         0 | 1 => stray_bytes(random, text(&frames)),
         2 => cut(random, text(&frames)),
         3 => text(&resized(random, frames)),
@@ -380,8 +463,10 @@ pub fn malformed(random: &mut Random) -> Vec<u8> {
         6 => text(&wrong_kind(random, frames)),
         7 => text(&wrong_length(random, frames)),
         8 | 9 => text(&changed_byte(random, frames)),
+        10 if random.once_in(2) => text(&too_many_uses(random)),
         10 => text(&too_large(random)),
         11 | 12 => text(&misused_exit(random, frames)),
+        13 | 14 => text(&wrong_sequence(random, frames)),
         _ => random_bytes(random),
     }
 }
@@ -425,7 +510,7 @@ fn many_lines(random: &mut Random) -> Vec<Frame> {
 
 fn wrong_kind(random: &mut Random, mut frames: Vec<Frame>) -> Vec<Frame> {
     let place = random.below(frames.len());
-    frames[place][1] = random.pick(&[0, 1, 2, 3, 4, 5, 6, 7, 8, 9, 255]);
+    frames[place][1] = random.pick(&[0, 1, 2, 3, 4, 5, 6, ENABLE, DISABLE, UNKNOWN, UNKNOWN + 1, 255]);
     frames
 }
 
@@ -448,9 +533,11 @@ fn changed_byte(random: &mut Random, mut frames: Vec<Frame>) -> Vec<Frame> {
 }
 
 /// Exit as if it were any channel's output: a step of its input, or its channel in a relabelling or anywhere in a list.
-/// A composition becomes a joint on it.
+/// Another line with two operands becomes a joint on it.
 fn misused_exit(random: &mut Random, mut frames: Vec<Frame>) -> Vec<Frame> {
-    let place = random.below(frames.len());
+    let any = random.below(frames.len());
+    let with_channels = frames.iter().position(|frame| matches!(frame[1], RESTRICT | RELABEL | HIDE | JOINT));
+    let place = random.pick(&[any, with_channels.unwrap_or(any)]);
     let frame = &mut frames[place];
     match frame[1] {
         LEAF if frame.len() > 3 => {
@@ -460,11 +547,29 @@ fn misused_exit(random: &mut Random, mut frames: Vec<Frame>) -> Vec<Frame> {
         LEAF => frame.extend([0, NO_ACTION, 0]),
         RELABEL => frame[3 + random.below(2)] = EXIT_CHANNEL,
         kind => {
-            let list = if matches!(kind, COMPOSE | JOINT) { 4 } else { 3 };
+            let list = if BINARY.contains(&kind) { 4 } else { 3 };
             let position = list + random.below(frame.len() - list + 1);
             frame.insert(position, EXIT_CHANNEL);
-            frame[1] = if kind == COMPOSE { JOINT } else { kind };
+            frame[1] = if BINARY.contains(&kind) { JOINT } else { kind };
         }
+    }
+    frames
+}
+
+/// An enabling or disabling, or the first unknown kind, with a body of any length and operands up to and past its own line; at
+/// times a line follows.
+fn wrong_sequence(random: &mut Random, mut frames: Vec<Frame>) -> Vec<Frame> {
+    let next = frames.len() as u8;
+    let kind = random.pick(&[ENABLE, DISABLE, ENABLE, DISABLE, UNKNOWN]);
+    let size = random.pick(&[0, 1, 2, 2, 2, 3, 4, 253]);
+    let past = random.pick(&[next, next + 1, 63, 64, 255]);
+    let mut body: Frame = (0..size).map(|_| random.below(next.into()) as u8).collect();
+    if size == 2 || random.once_in(2) {
+        body.iter_mut().skip(random.below(2)).take(1 + random.below(2)).for_each(|byte| *byte = past);
+    }
+    frames.push([vec![next, kind], body].concat());
+    if random.once_in(4) {
+        frames.push(vec![next + 1, LEAF, 1]);
     }
     frames
 }
@@ -473,13 +578,30 @@ fn misused_exit(random: &mut Random, mut frames: Vec<Frame>) -> Vec<Frame> {
 fn too_large(random: &mut Random) -> Vec<Frame> {
     let states: u8 = random.pick(&[1, 1, 2, 3, 17, 64]);
     let mut frames = vec![vec![0, LEAF, states, 0, 2, 0]];
-    let mut uses = 1;
-    while uses <= MAX_USES && uses * width(states) <= MAX_BITS {
+    let kinds: &[u8] = if random.once_in(2) { &BINARY } else { &[COMPOSE, JOINT] };
+    let (mut uses, mut bits) = (1, width(states));
+    while uses <= MAX_USES && bits <= MAX_BITS {
         let newest = frames.len() as u8 - 1;
-        let (other, more) = if random.once_in(4) { (0, 1) } else { (newest, uses) };
-        frames.push(vec![newest + 1, random.pick(&[COMPOSE, JOINT]), newest, other]);
-        uses += more;
+        let kind = random.pick(kinds);
+        let (other, more, wider) =
+            if random.once_in(4) { (0, 1, width(states)) } else { (newest, uses, bits) };
+        frames.push(vec![newest + 1, kind, newest, other]);
+        (uses, bits) = (uses + more, bits + wider + added(kind));
     }
+    frames
+}
+
+/// A leaf of one state doubled to as many uses as are allowed, and a line with more of them or as many.
+fn too_many_uses(random: &mut Random) -> Vec<Frame> {
+    let mut frames = vec![vec![0, LEAF, 1, 0, EXIT, 0]];
+    for newest in 0..MAX_USES.ilog2() as u8 {
+        frames.push(vec![newest + 1, random.pick(&[COMPOSE, JOINT]), newest, newest]);
+    }
+    let newest = frames.len() as u8 - 1;
+    let one = random.pick(&[newest, newest, newest - 1]);
+    let other = random.pick(&[0, newest - 1]);
+    let (i, j) = in_any_order(random, one, other);
+    frames.push(vec![newest + 1, random.pick(&BINARY), i, j]);
     frames
 }
 

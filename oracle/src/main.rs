@@ -22,7 +22,7 @@ const USAGE: &str = "usage:
   oracle vectors FILE
   oracle requests FILE
   oracle generate SEED COUNT
-  oracle stream texts|comparisons|shown|tables SEED FIRST COUNT
+  oracle stream texts|comparisons|shown|sequences|tables SEED FIRST COUNT
   oracle stream vectors|requests FILE SEED
 
 compare and list answer with both verdicts. list evaluates the joined list with room for so many nodes, also for more
@@ -86,6 +86,7 @@ fn run_stream(words: &[&str]) -> Done {
                 "texts" => stream().texts(cases),
                 "comparisons" => stream().comparisons(cases),
                 "shown" => stream().shown(cases),
+                "sequences" => stream().sequences(cases),
                 "tables" => stream().tables(cases),
                 _ => return Err(USAGE.to_string()),
             }
@@ -158,8 +159,8 @@ fn read(path: &str) -> Done {
     match reader::read(&bytes(path)?) {
         Ok(model) => {
             let last = model.last();
-            let (lines, bits, uses) = (model.lines.len(), last.bits(), last.uses());
-            println!("accepted, {lines} lines, {bits} bits, {uses} leaf uses, {} states", last.states());
+            let (lines, bits, uses) = (model.lines.len(), last.bits, last.uses);
+            println!("accepted, {lines} lines, {bits} bits, {uses} leaf uses, {} states", last.states);
         }
         Err(refusal) => println!("refused {} {}", refusal.number, refusal.line),
     }

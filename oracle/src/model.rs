@@ -43,7 +43,8 @@ pub struct Triple {
     pub to: u8,
 }
 
-/// A line's process; operands are numbers of earlier lines.
+/// A line's process; operands are numbers of earlier lines. An enabling is its first operand until that exits, and then the
+/// second; a disabling its first, until that exits or the second takes a step.
 #[derive(Clone, Debug, PartialEq, Eq)]
 pub enum Process {
     Leaf { states: u8, triples: Vec<Triple> },
@@ -52,6 +53,8 @@ pub enum Process {
     Relabel { operand: usize, old: u8, new: u8 },
     Hide(usize, Channels),
     Joint(usize, usize, Channels),
+    Enable(usize, usize),
+    Disable(usize, usize),
 }
 
 impl Process {
@@ -60,7 +63,19 @@ impl Process {
             Process::Leaf { .. } => vec![],
             Process::Restrict(i, _) | Process::Hide(i, _) => vec![i],
             Process::Relabel { operand, .. } => vec![operand],
-            Process::Compose(i, j) | Process::Joint(i, j, _) => vec![i, j],
+            Process::Compose(i, j)
+            | Process::Joint(i, j, _)
+            | Process::Enable(i, j)
+            | Process::Disable(i, j) => vec![i, j],
+        }
+    }
+
+    /// The bits below its operands' that say which of them are alive.
+    pub fn added_bits(&self) -> u32 {
+        match self {
+            Process::Enable(..) => 1,
+            Process::Disable(..) => 2,
+            _ => 0,
         }
     }
 }
@@ -73,22 +88,28 @@ pub fn width(states: u8) -> u32 {
 #[derive(Clone, Debug)]
 pub struct Line {
     pub process: Process,
-    /// State counts of the leaf uses, first leaf first.
-    pub leaves: Vec<u8>,
+    pub bits: u32,
+    /// Leaf uses.
+    pub uses: u32,
+    /// At most 2^`MAX_BITS` in an accepted model.
+    pub states: u64,
 }
 
 impl Line {
-    pub fn bits(&self) -> u32 {
-        self.leaves.iter().map(|&n| width(n)).sum()
-    }
-
-    pub fn uses(&self) -> u32 {
-        self.leaves.len() as u32
-    }
-
-    /// Number of combinations of leaf states; at most 2^`MAX_BITS` in an accepted model.
-    pub fn states(&self) -> u64 {
-        self.leaves.iter().map(|&n| u64::from(n)).product()
+    /// A line whose operands are among the earlier ones.
+    pub fn new(process: Process, earlier: &[Line]) -> Line {
+        if let Process::Leaf { states, .. } = process {
+            return Line { process, bits: width(states), uses: 1, states: states.into() };
+        }
+        let operands: Vec<&Line> = process.operands().into_iter().map(|i| &earlier[i]).collect();
+        let bits = process.added_bits() + operands.iter().map(|line| line.bits).sum::<u32>();
+        let uses = operands.iter().map(|line| line.uses).sum();
+        let states = match process {
+            Process::Enable(..) => operands[0].states + operands[1].states,
+            Process::Disable(..) => 2 * operands[0].states + operands[1].states,
+            _ => operands.iter().map(|line| line.states).product(),
+        };
+        Line { process, bits, uses, states }
     }
 }
 

@@ -1,5 +1,6 @@
 //! A small source of repeatable numbers (splitmix64).
 
+#[derive(Clone)]
 pub struct Random(u64);
 
 impl Random {

@@ -50,8 +50,8 @@ fn read_line(digits: &[u8], earlier: &[Line]) -> Result<Line, u8> {
         return Err(BAD_KIND);
     }
     let process = process(kind, body, earlier.len()).ok_or(BAD_RANGE)?;
-    let line = Line { leaves: leaves(&process, earlier), process };
-    if line.bits() > MAX_BITS || line.uses() > MAX_USES {
+    let line = Line::new(process, earlier);
+    if line.bits > MAX_BITS || line.uses > MAX_USES {
         return Err(TOO_LARGE);
     }
     Ok(line)
@@ -75,7 +75,7 @@ fn digit(byte: u8) -> Option<u8> {
 fn length_fits(kind: u8, length: usize) -> bool {
     match kind {
         1 => length % 3 == 1,
-        2 => length == 2,
+        2 | 7 | 8 => length == 2,
         3 | 5 => length >= 1,
         4 => length == 3,
         6 => length >= 2,
@@ -95,7 +95,9 @@ fn process(kind: u8, body: &[u8], line: usize) -> Option<Process> {
             new: channel(body[2])?,
         }),
         5 => Some(Process::Hide(operand(body[0], line)?, channels(&body[1..])?)),
-        _ => Some(Process::Joint(operand(body[0], line)?, operand(body[1], line)?, channels(&body[2..])?)),
+        6 => Some(Process::Joint(operand(body[0], line)?, operand(body[1], line)?, channels(&body[2..])?)),
+        7 => Some(Process::Enable(operand(body[0], line)?, operand(body[1], line)?)),
+        _ => Some(Process::Disable(operand(body[0], line)?, operand(body[1], line)?)),
     }
 }
 
@@ -128,14 +130,4 @@ fn channel(byte: u8) -> Option<u8> {
 
 fn channels(bytes: &[u8]) -> Option<Channels> {
     bytes.iter().map(|&byte| channel(byte)).collect()
-}
-
-fn leaves(process: &Process, earlier: &[Line]) -> Vec<u8> {
-    match process {
-        Process::Leaf { states, .. } => vec![*states],
-        _ => {
-            let operands = process.operands();
-            operands.iter().flat_map(|&i| earlier[i].leaves.iter().copied()).collect()
-        }
-    }
 }

@@ -7,6 +7,7 @@ use crate::answer::{compare_models, largest, told, Answer, MAX_TABLE, WORDS};
 use crate::bisim::{Mode, Outcome};
 use crate::calls::{self, any_pair, calls, work, Call, Pair};
 use crate::codes::holds;
+use crate::generate::has_sequence;
 use crate::lookup::{look_up, Ask};
 use crate::model::Model;
 use crate::program::{printed, Files};
@@ -74,8 +75,17 @@ impl<W: Write> Stream<W> {
 
     /// Comparisons of small pairs, after which every step is looked up, and every pair of codes in each mode that is equal.
     pub fn shown(&mut self, cases: Cases) -> io::Result<()> {
+        self.each_shown(cases, calls::shown)
+    }
+
+    /// The same of pairs each of which has an enabling or disabling.
+    pub fn sequences(&mut self, cases: Cases) -> io::Result<()> {
+        self.each_shown(cases, calls::sequenced)
+    }
+
+    fn each_shown(&mut self, cases: Cases, shown: fn(&mut Random) -> (Pair, Call)) -> io::Result<()> {
         for (case, mut random) in cases.each() {
-            let (pair, call) = calls::shown(&mut random);
+            let (pair, call) = shown(&mut random);
             self.shown_pair(case, &mut random, &pair, &call)?;
         }
         self.end()
@@ -206,10 +216,13 @@ impl<W: Write> Stream<W> {
         self.numbers(&expected(beside))
     }
 
+    /// The texts, and whether both are accepted and a used line of one is an enabling or disabling.
     fn pair(&mut self, case: u64, left: &[u8], right: &[u8]) -> io::Result<()> {
         self.numbers(&[PAIR, case])?;
         self.bytes(left)?;
-        self.bytes(right)
+        self.bytes(right)?;
+        let accepted = read(left).is_ok() && read(right).is_ok();
+        self.number((accepted && (has_sequence(left) || has_sequence(right))).into())
     }
 
     fn call(&mut self, random: &mut Random, call: &Call, answer: Option<Answer>) -> io::Result<()> {
@@ -222,9 +235,12 @@ impl<W: Write> Stream<W> {
     }
 
     fn show(&mut self, random: &mut Random, shown: &Shown) -> io::Result<()> {
-        self.numbers(&[SHOWN, random.draw(), shown.left.0.into(), shown.right.0.into()])?;
-        self.bytes(&shown.left.1)?;
-        self.bytes(&shown.right.1)?;
+        self.numbers(&[SHOWN, random.draw()])?;
+        for relation in [&shown.left, &shown.right] {
+            self.numbers(&[relation.bits.into(), relation.codes.len() as u64])?;
+            relation.codes.iter().try_for_each(|&code| self.number(code.into()))?;
+            self.bytes(&relation.values)?;
+        }
         self.bytes(&shown.strong)?;
         self.bytes(&shown.weak)
     }
@@ -293,12 +309,11 @@ fn beside(model: &Model, length: usize) -> Answer {
     compare_models(&left, model, 0, length - 2).answer
 }
 
-/// What the table of an answer shows: a byte a look-up, for every code of each model's bits.
+/// What the table of an answer shows: a byte a look-up.
 struct Shown {
-    /// Bits, and values by now code, action and next code.
-    left: (u32, Vec<u8>),
-    right: (u32, Vec<u8>),
-    /// Values by left and right now code for each mode; none unless its verdict is "equal".
+    left: Relation,
+    right: Relation,
+    /// Values by the left's and the right's codes for each mode; none unless its verdict is "equal".
     strong: Vec<u8>,
     weak: Vec<u8>,
 }
@@ -308,43 +323,59 @@ impl Shown {
     fn new(pair: &Pair, answer: Answer) -> Option<Shown> {
         let Answer::Given { strong, weak, .. } = answer else { return None };
         let (left, right) = (read(&pair.left).ok()?, read(&pair.right).ok()?);
+        let codes = (codes(&left)?, codes(&right)?);
         let pairs = |outcome, mode| match outcome {
-            Outcome::Equal(_) => related(&left, &right, mode),
+            Outcome::Equal(_) => related(&left, &right, mode, &codes),
             _ => Some(vec![]),
         };
-        Some(Shown {
-            left: relation(&left)?,
-            right: relation(&right)?,
-            strong: pairs(strong, Mode::Strong)?,
-            weak: pairs(weak, Mode::Weak)?,
-        })
+        let (strong, weak) = (pairs(strong, Mode::Strong)?, pairs(weak, Mode::Weak)?);
+        let (left, right) = (Relation::new(&left, codes.0)?, Relation::new(&right, codes.1)?);
+        Some(Shown { left, right, strong, weak })
     }
 }
 
-/// Derived steps between states, the list's formula at other codes.
-fn relation(model: &Model) -> Option<(u32, Vec<u8>)> {
-    let bits = Some(model.last().bits()).filter(|&bits| bits <= 5)?;
-    let system = derive(model)?;
-    let is_state = |code: u32| system.states.binary_search(&code).is_ok();
-    let mut values = Vec::new();
-    for from in 0..1 << bits {
-        for action in 0..64 {
-            for to in 0..1 << bits {
-                values.push(u8::from(if is_state(from) && is_state(to) {
-                    system.steps.binary_search(&Step { from, action, to }).is_ok()
-                } else {
-                    holds(model, from, action, to)
+/// All codes of a model with few bits, only the states of a larger one; none if these are many.
+fn codes(model: &Model) -> Option<Vec<u32>> {
+    let bits = model.last().bits;
+    match bits {
+        0..=5 => Some((0..1 << bits).collect()),
+        _ => derive(model).map(|system| system.states).filter(|states| states.len() <= 100),
+    }
+}
+
+/// What look-ups from a model's root give.
+struct Relation {
+    bits: u32,
+    codes: Vec<u32>,
+    /// By now code, action and next code.
+    values: Vec<u8>,
+}
+
+impl Relation {
+    /// From a state the derived steps; the list's formula at other codes.
+    fn new(model: &Model, codes: Vec<u32>) -> Option<Relation> {
+        let system = derive(model)?;
+        let mut values = Vec::new();
+        for &from in &codes {
+            let is_state = system.states.binary_search(&from).is_ok();
+            for action in 0..64 {
+                values.extend(codes.iter().map(|&to| {
+                    u8::from(if is_state {
+                        system.steps.binary_search(&Step { from, action, to }).is_ok()
+                    } else {
+                        holds(model, from, action, to)
+                    })
                 }));
             }
         }
+        Some(Relation { bits: model.last().bits, codes, values })
     }
-    Some((bits, values))
 }
 
-/// Whether the largest bisimulation holds each pair of codes.
-fn related(left: &Model, right: &Model, mode: Mode) -> Option<Vec<u8>> {
+/// Whether the largest bisimulation holds each pair of these codes.
+fn related(left: &Model, right: &Model, mode: Mode, codes: &(Vec<u32>, Vec<u32>)) -> Option<Vec<u8>> {
     let largest = largest(left, right, mode)?;
-    let codes = |model: &Model| 0..1u32 << model.last().bits();
-    let held = |x, y| u8::from(largest.binary_search(&(x, y)).is_ok());
-    Some(codes(left).flat_map(|x| codes(right).map(move |y| held(x, y)).collect::<Vec<_>>()).collect())
+    let held = |x: u32, y: u32| u8::from(largest.binary_search(&(x, y)).is_ok());
+    let pairs = codes.0.iter().flat_map(|&x| codes.1.iter().map(move |&y| (x, y)));
+    Some(pairs.map(|(x, y)| held(x, y)).collect())
 }

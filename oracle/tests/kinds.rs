@@ -1,13 +1,14 @@
 //! The short comparison run has every sort of model and of call.
 
 use std::collections::{BTreeMap, BTreeSet};
+use std::sync::OnceLock;
 
 use oracle::answer::{table_fits, Answer, Known, MAX_TABLE, WORDS};
 use oracle::bisim::Outcome;
-use oracle::calls::{any_pair, calls, shown, Call, Pair};
-use oracle::generate::{FORMER_BITS, WIDE};
+use oracle::calls::{any_pair, calls, sequenced as shown_sequences, shown, Call, Pair};
+use oracle::generate::{has_sequence, FORMER_BITS, WIDE};
 use oracle::lookup::{codes, last_level, look_up, Ask};
-use oracle::model::{Channels, Line, Model, Process, EXIT, EXIT_CHANNEL, MAX_BITS, TAU};
+use oracle::model::{Channels, Line, Model, Process, EXIT, EXIT_CHANNEL, MAX_BITS, MAX_USES, TAU};
 use oracle::random::Random;
 use oracle::reader::{read, Refusal};
 use oracle::steps::{derive, System};
@@ -15,13 +16,16 @@ use oracle::tables::{any_ask, any_table, Table};
 use oracle::texts::any_text;
 
 const SEED: u64 = 1;
-const CASES: u64 = 5000;
+const CASES: u64 = 10_000;
 
-fn pairs() -> impl Iterator<Item = (Pair, Random)> {
-    (0..CASES).map(|case| {
+/// The pairs of the run, made once for all tests, each with the source of numbers that its calls are drawn from.
+fn pairs() -> impl Iterator<Item = (&'static Pair, Random)> {
+    static PAIRS: OnceLock<Vec<(Pair, Random)>> = OnceLock::new();
+    let pair = |case| {
         let mut random = Random::of_case(SEED, case);
         (any_pair(&mut random), random)
-    })
+    };
+    PAIRS.get_or_init(|| (0..CASES).map(pair).collect()).iter().map(|(pair, random)| (pair, random.clone()))
 }
 
 fn kind(line: &Line) -> &'static str {
@@ -32,6 +36,8 @@ fn kind(line: &Line) -> &'static str {
         Process::Relabel { .. } => "relabel",
         Process::Hide(..) => "hide",
         Process::Joint(..) => "joint",
+        Process::Enable(..) => "enable",
+        Process::Disable(..) => "disable",
     }
 }
 
@@ -49,7 +55,7 @@ fn every_operator_stands_over_every_other() {
             nested.extend(operands.iter().map(|&operand| (kind(line), kind(&model.lines[operand]))));
         }
     }
-    assert_eq!(nested.len(), 5 * 6, "{nested:?}");
+    assert_eq!(nested.len(), OPERATORS.len() * (1 + OPERATORS.len()), "{nested:?}");
 }
 
 fn depth(model: &Model, line: usize) -> usize {
@@ -86,6 +92,8 @@ fn sorts(model: &Model) -> Vec<&'static str> {
         Process::Leaf { ref triples, .. } if triples.is_empty() => "no triples",
         Process::Compose(i, j) if i == j => "compose i = j",
         Process::Joint(i, j, _) if i == j => "joint i = j",
+        Process::Enable(i, j) if i == j => "enable i = j",
+        Process::Disable(i, j) if i == j => "disable i = j",
         Process::Joint(_, _, Channels(0)) => "joint on no channel",
         Process::Restrict(_, Channels(0)) => "restrict no channel",
         Process::Hide(_, Channels(0)) => "hide no channel",
@@ -99,13 +107,13 @@ fn sorts(model: &Model) -> Vec<&'static str> {
 fn every_sort_of_model_comes_up() {
     let seen: BTreeSet<_> =
         pairs().filter_map(|(pair, _)| read(&pair.left).ok()).flat_map(|model| sorts(&model)).collect();
-    assert_eq!(seen.len(), 13, "{seen:?}");
+    assert_eq!(seen.len(), 15, "{seen:?}");
 }
 
 /// The system of the first lines of a model, the last of which is this one; none if it is large.
 fn system(model: &Model, line: usize) -> Option<System> {
     let first = Model { lines: model.lines[..=line].to_vec() };
-    (first.last().bits() <= 8).then(|| derive(&first)).flatten()
+    (first.last().bits <= 8).then(|| derive(&first)).flatten()
 }
 
 fn exits(system: &System) -> bool {
@@ -125,7 +133,8 @@ fn exits_from_start(System { steps, .. }: &System) -> bool {
     }
 }
 
-const OPERATORS: [&str; 5] = ["compose", "restrict", "relabel", "hide", "joint"];
+const OPERATORS: [&str; 7] = ["compose", "restrict", "relabel", "hide", "joint", "enable", "disable"];
+const BINARY: [&str; 4] = ["compose", "joint", "enable", "disable"];
 
 /// An operator's kind, that of an operand whose steps have an exit, and whether all its operands' have one.
 type Over = (&'static str, &'static str, bool);
@@ -138,7 +147,7 @@ fn over_exits(model: &Model, line: &Line) -> Vec<Over> {
     exiting.into_iter().map(|&operand| (kind(line), kind(&model.lines[operand]), all)).collect()
 }
 
-/// Over each kind whose steps have an exit stands every operator, compose and joint also so that only one side exits.
+/// Over each kind whose steps have an exit stands every operator, those of two operands also so that only one of them exits.
 #[test]
 fn exits_come_up_below_every_operator() {
     let mut seen: BTreeMap<Over, u64> = BTreeMap::new();
@@ -152,7 +161,7 @@ fn exits_come_up_below_every_operator() {
     }
     let below = ["leaf"].into_iter().chain(OPERATORS);
     let all = below.clone().flat_map(|below| OPERATORS.map(|above| (above, below, true)));
-    let one = below.flat_map(|below| ["compose", "joint"].map(|above| (above, below, false)));
+    let one = below.flat_map(|below| BINARY.map(|above| (above, below, false)));
     let rare: Vec<_> = all.chain(one).filter(|over| seen.get(over).is_none_or(|&count| count < 3)).collect();
     assert!(rare.is_empty(), "{rare:?} {seen:?}");
 }
@@ -172,6 +181,122 @@ fn exits_come_up_from_the_start() {
     }
     let counts = (models, some, reached, joint);
     assert!(some > models / 4 && reached > models / 4 && joint > models / 50, "{counts:?}");
+}
+
+/// Whether a used line of an accepted pair is an enabling or disabling.
+fn sequenced(pair: &Pair) -> bool {
+    matches!(pair.known, Known::Traced(_)) && (has_sequence(&pair.left) || has_sequence(&pair.right))
+}
+
+#[test]
+fn most_accepted_pairs_have_an_enabling_or_disabling() {
+    let (mut accepted, mut some, mut verdicts) = (0, 0, BTreeMap::new());
+    for (pair, _) in pairs() {
+        let Known::Traced(trace) = &pair.known else { continue };
+        accepted += 1;
+        some += u64::from(sequenced(pair));
+        if sequenced(pair) && !trace.full {
+            let both = [trace.outcomes.strong, trace.outcomes.weak].map(verdict);
+            *verdicts.entry(both).or_insert(0) += 1;
+        }
+    }
+    assert!(2 * some > accepted && 2 * some > CASES, "{some} of {accepted}");
+    // Equal in both modes, in one, and in none.
+    assert!(verdicts.len() == 3 && verdicts.values().all(|&count| count > CASES / 40), "{verdicts:?}");
+    let shown = (0..1000).map(|case| shown_sequences(&mut Random::of_case(SEED, case)));
+    assert!(shown.into_iter().all(|(pair, _)| sequenced(&pair)));
+}
+
+/// Each of both over each of both as either operand, with exits that come up from the first's start, or not; and as the whole.
+#[test]
+fn enablings_and_disablings_come_up_in_every_place() {
+    let mut seen: BTreeMap<_, u64> = BTreeMap::new();
+    for (pair, _) in pairs() {
+        let Ok(model) = read(&pair.left) else { continue };
+        for line in used_lines(&model).into_iter().filter(|line| line.process.added_bits() > 0) {
+            let operands = line.process.operands();
+            let ends = system(&model, operands[0]).is_some_and(|first| exits_from_start(&first));
+            for (place, &operand) in operands.iter().enumerate() {
+                *seen.entry((kind(line), place, kind(&model.lines[operand]), ends)).or_default() += 1;
+            }
+        }
+    }
+    let below = ["leaf"].into_iter().chain(OPERATORS);
+    let wanted = below.flat_map(|below| {
+        ["enable", "disable"].into_iter().flat_map(move |above| {
+            [(0, true), (0, false), (1, true), (1, false)].map(|(place, ends)| (above, place, below, ends))
+        })
+    });
+    let rare: Vec<_> = wanted.filter(|sort| seen.get(sort).is_none_or(|&count| count < 5)).collect();
+    assert!(rare.is_empty(), "{rare:?} {seen:?}");
+    let of = |ending| seen.iter().filter(|(sort, _)| sort.3 == ending).map(|(_, count)| count).sum::<u64>();
+    assert!(of(true) > of(false), "{} {}", of(true), of(false));
+}
+
+/// The refusal of the first line that is refused, if that is an enabling, a disabling or of the first unknown kind: its number,
+/// kind and length, and of one that is refused by its size its bits and uses.
+fn wrong_sequence(text: &[u8]) -> Option<(u8, u8, usize, &'static str)> {
+    let Err(Refusal { number, line }) = read(text) else { return None };
+    let lines: Vec<&[u8]> = text.split_inclusive(|&b| b == b'\n').collect();
+    let frame = frame(lines.get(line)?).filter(|frame| matches!(frame.get(1), Some(7..=9)))?;
+    let size = match number {
+        6 => {
+            let before = read(&lines[..line].concat()).ok()?;
+            let bits = joined_bits(lines[line], &before);
+            let uses: u32 = frame[2..].iter().map(|&i| before.lines[usize::from(i)].uses).sum();
+            match (bits > MAX_BITS, uses > MAX_USES) {
+                (true, true) => "bits and uses",
+                (true, false) if bits == MAX_BITS + 1 => "25 bits",
+                (true, false) => "bits",
+                _ if uses == MAX_USES + 1 => "65 uses",
+                _ => "uses",
+            }
+        }
+        _ => "",
+    };
+    Some((number, frame[1], frame.len() - 2, size))
+}
+
+#[test]
+fn every_wrong_enabling_and_disabling_comes_up() {
+    let both = |number, length, size| [(number, 7, length, size), (number, 8, length, size)];
+    let lengths = [0, 1, 3, 4, 253].into_iter().flat_map(|length| both(4, length, ""));
+    let sizes = ["25 bits", "bits"].into_iter().flat_map(|size| both(6, 2, size));
+    let wanted: Vec<_> = lengths.chain(both(5, 2, "")).chain(sizes).chain([(4, 9, 2, "")]).collect();
+    let uses = ["65 uses", "uses"].into_iter().flat_map(|size| both(6, 2, size));
+    let in_texts: Vec<_> = wanted.iter().copied().chain(uses).collect();
+    let texts = (0..4 * CASES).map(|case| any_text(&mut Random::of_case(SEED, case)));
+    let seen: BTreeSet<_> = texts.filter_map(|text| wrong_sequence(&text)).collect();
+    let missing: Vec<_> = in_texts.iter().filter(|sort| !seen.contains(sort)).collect();
+    assert!(missing.is_empty(), "{missing:?}");
+    for right in [false, true] {
+        let text = |pair: &'static Pair| if right { &pair.right } else { &pair.left };
+        let seen: BTreeSet<_> = pairs().filter_map(|(pair, _)| wrong_sequence(text(pair))).collect();
+        let missing: Vec<_> = wanted.iter().filter(|sort| sort.0 < 6 && !seen.contains(sort)).collect();
+        assert!(missing.is_empty(), "right {right}: {missing:?}");
+    }
+}
+
+/// Accepted lines of both kinds with as many bits as are allowed, and with as many uses.
+#[test]
+fn enablings_and_disablings_at_the_ends_come_up() {
+    let at_end = |line: &Line| match (line.bits, line.uses) {
+        (MAX_BITS, _) => Some((kind(line), "bits")),
+        (_, MAX_USES) => Some((kind(line), "uses")),
+        _ => None,
+    };
+    let wanted: BTreeSet<_> =
+        ["enable", "disable"].into_iter().flat_map(|kind| ["bits", "uses"].map(|end| (kind, end))).collect();
+    let texts = (0..4 * CASES).map(|case| any_text(&mut Random::of_case(SEED, case)));
+    let models = texts.filter_map(|text| read(&text).ok());
+    let seen: BTreeSet<_> =
+        models.flat_map(|model| model.lines.iter().filter_map(at_end).collect::<Vec<_>>()).collect();
+    assert!(seen.is_superset(&wanted), "{seen:?}");
+    let models = pairs().filter_map(|(pair, _)| read(&pair.left).ok());
+    let seen: BTreeSet<_> = models
+        .flat_map(|model| used_lines(&model).into_iter().filter_map(at_end).collect::<Vec<_>>())
+        .collect();
+    assert!(seen.contains(&("enable", "bits")) && seen.contains(&("disable", "bits")), "{seen:?}");
 }
 
 /// The bytes of a line; none if it has other characters than digits.
@@ -212,12 +337,12 @@ fn misuse(text: &[u8]) -> Option<(u8, &'static str)> {
 fn every_misuse_of_exit_comes_up() {
     let lists = [1, 3, 5, 6].into_iter().flat_map(|kind| ["first", "between", "last"].map(|at| (kind, at)));
     let wanted: BTreeSet<_> = lists.chain([(4, "first"), (4, "last")]).collect();
-    let texts = (0..4 * CASES).map(|case| any_text(&mut Random::of_case(SEED, case)));
+    let texts = (0..2 * CASES).map(|case| any_text(&mut Random::of_case(SEED, case)));
     let seen: BTreeSet<_> = texts.filter_map(|text| misuse(&text)).collect();
     assert_eq!(seen, wanted);
     let sides =
         |pair: &Pair| [misuse(&pair.left), misuse(&pair.right)].into_iter().flatten().collect::<Vec<_>>();
-    let seen: BTreeSet<_> = pairs().flat_map(|(pair, _)| sides(&pair)).collect();
+    let seen: BTreeSet<_> = pairs().flat_map(|(pair, _)| sides(pair)).collect();
     assert_eq!(seen, wanted);
 }
 
@@ -264,7 +389,7 @@ const VERDICTS: [&str; 7] = [
 fn every_answer_comes_up() {
     let mut seen = BTreeSet::new();
     for (pair, mut random) in pairs() {
-        seen.extend(calls(&mut random, &pair).iter().map(|call| answer_sort(call, &pair.known)));
+        seen.extend(calls(&mut random, pair).iter().map(|call| answer_sort(call, &pair.known)));
     }
     assert!(VERDICTS.iter().all(|&sort| seen.contains(sort)), "{seen:?}");
     // Beside these 0 to 11 words, 1 to 6 on two sides, 7 and 8.
@@ -275,7 +400,7 @@ fn every_answer_comes_up() {
 #[test]
 fn too_few_words_come_up_beside_an_unfit_table() {
     let unfit = |call: &Call| call.words < WORDS && !table_fits(call.table.into());
-    assert!(pairs().any(|(pair, mut random)| calls(&mut random, &pair).iter().any(unfit)));
+    assert!(pairs().any(|(pair, mut random)| calls(&mut random, pair).iter().any(unfit)));
 }
 
 #[test]
@@ -292,7 +417,7 @@ fn look_ups_beside_each_9_come_up() {
 fn every_length_comes_up() {
     let (mut work, mut table, mut limits) = (BTreeSet::new(), BTreeSet::new(), BTreeSet::new());
     for (pair, mut random) in pairs() {
-        for call in calls(&mut random, &pair) {
+        for call in calls(&mut random, pair) {
             let sort = |length: usize| if length < 2 { length } else { 2 + length % 2 };
             work.insert(sort(call.work));
             table.insert(call.table[0]);
@@ -311,7 +436,7 @@ fn every_length_comes_up() {
 fn widest(text: &[u8]) -> Option<(u32, bool)> {
     let lines: Vec<&[u8]> = text.split_inclusive(|&byte| byte == b'\n').collect();
     match read(text) {
-        Ok(model) => model.lines.iter().map(Line::bits).zip(model.used()).max(),
+        Ok(model) => model.lines.iter().map(|line| line.bits).zip(model.used()).max(),
         Err(Refusal { number: 6, line }) => {
             let before = read(&lines[..line].concat()).ok()?;
             Some((joined_bits(lines[line], &before), line + 1 == lines.len()))
@@ -320,11 +445,16 @@ fn widest(text: &[u8]) -> Option<(u32, bool)> {
     }
 }
 
-/// The bits of a line that joins two lines of the model.
+/// The bits of a line that joins two lines of the model, with those that an enabling or disabling adds.
 fn joined_bits(line: &[u8], model: &Model) -> u32 {
     let digits = std::str::from_utf8(line).expect("refused by its bits");
-    let operand = |place| usize::from_str_radix(&digits[place..place + 2], 16).expect("digits");
-    model.lines[operand(4)].bits() + model.lines[operand(6)].bits()
+    let byte = |place| usize::from_str_radix(&digits[place..place + 2], 16).expect("digits");
+    let added = match byte(2) {
+        7 => 1,
+        8 => 2,
+        _ => 0,
+    };
+    added + model.lines[byte(4)].bits + model.lines[byte(6)].bits
 }
 
 #[test]
@@ -349,8 +479,7 @@ fn width_sorts(pair: &Pair) -> Vec<(u32, u8, &'static str)> {
 
 #[test]
 fn comparisons_of_every_width_about_the_limit_come_up() {
-    let pairs = (0..2 * CASES).map(|case| any_pair(&mut Random::of_case(SEED, case)));
-    let seen: BTreeSet<_> = pairs.flat_map(|pair| width_sorts(&pair)).collect();
+    let seen: BTreeSet<_> = pairs().flat_map(|(pair, _)| width_sorts(pair)).collect();
     let accepted = |bits| ["equal", "different", "full"].map(|sort| (bits, sort));
     let sorts = [FORMER_BITS, FORMER_BITS + 1, MAX_BITS].into_iter().flat_map(accepted);
     let sorts = sorts.chain([(MAX_BITS + 1, "refused")]);

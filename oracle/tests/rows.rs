@@ -1,4 +1,4 @@
-//! Rows P1 to P10 of document 01 and single points of its text and of document 02's point 4.
+//! Rows P1 to P10 of document 01 and single points of its text and of document 02's points 4 and 5.
 
 use oracle::answer::MAX_TABLE;
 use oracle::bisim::Mode;
@@ -138,8 +138,7 @@ fn each_refusal_of_a_text() {
 fn a_line_has_at_most_24_bits_and_64_uses() {
     // 24 bits in line 2; 25 bits above it, also where a small last line follows; then 64 and 65 uses.
     let widest = "000140/01020000/02020101";
-    let refused =
-        |row: &str| read(&text(row)).map(|model| model.last().bits()).map_err(|r| (r.number, r.line));
+    let refused = |row: &str| read(&text(row)).map(|model| model.last().bits).map_err(|r| (r.number, r.line));
     assert_eq!(refused(widest), Ok(24));
     assert_eq!(refused(&format!("{widest}/030102")), Ok(1));
     assert_eq!(refused(&format!("{widest}/030101/04020203")), Ok(24));
@@ -331,4 +330,99 @@ fn refusals_before_and_after_that_of_exit() {
     assert_eq!(refusal(&format!("{widest}/0406020301")), Some((6, 4)));
     assert_eq!(refusal(&format!("{widest}/040602031F")), Some((5, 4)));
     assert_eq!(refusal("000102003F01/010"), Some((5, 0)));
+}
+
+/// Output 1, then exit; and output 2.
+const ENDS: &str = "000103000201013E02";
+const OTHER: &str = "0102000401";
+
+#[test]
+fn enabling_waits_for_exit_and_makes_it_silent() {
+    // First states 0, 2, 4 and second states 1, 9: one added bit, two bits of the first, one of the second.
+    assert_eq!(derived(&format!("{ENDS}/01{OTHER}/02070001")), vec![(0, 2, 2), (1, 4, 9), (2, 0, 1)]);
+    // What follows the first's exit is gone, wherever that leads.
+    assert_eq!(
+        derived(&format!("000103003E01010602/01{OTHER}/02070001")),
+        vec![(0, 0, 1), (1, 4, 9), (2, 6, 4)]
+    );
+    assert_eq!(derived(&format!("000103003E01003E02/01{OTHER}/02070001")), vec![(0, 0, 1), (1, 4, 9)]);
+    // Exit of the second stays.
+    assert_eq!(derived(&format!("{EXITS}/01070000")), vec![(0, 0, 1), (1, 62, 5)]);
+}
+
+#[test]
+fn disabling_takes_steps_of_either() {
+    // Both alive 0, 4, 8; only the second 1, 17; only the first 2, 6, 10.
+    let all =
+        vec![(0, 2, 4), (0, 4, 17), (1, 4, 17), (2, 2, 6), (4, 4, 17), (4, 62, 10), (6, 62, 10), (8, 4, 17)];
+    assert_eq!(derived(&format!("{ENDS}/01{OTHER}/02080001")), all);
+    // The second's exit drops the first and stays visible; its τ drops it too.
+    let by = |action: u8| derived(&format!("000101000200/01010200{action:02X}01/02080001"));
+    for action in [TAU, 62] {
+        let mut expected = vec![(0, 2, 0), (0, action, 5), (1, action, 5), (2, 2, 2)];
+        expected.sort_unstable();
+        assert_eq!(by(action), expected);
+    }
+}
+
+#[test]
+fn states_of_enablings_and_disablings_add_up() {
+    let size = |row: &str| {
+        let model = model(row);
+        (model.last().bits, model.last().uses, model.last().states)
+    };
+    // 3 and 5 states: 2 and 3 bits.
+    let leaves = "000103/010105";
+    assert_eq!(size(&format!("{leaves}/02070001")), (6, 2, 8));
+    assert_eq!(size(&format!("{leaves}/02080001")), (7, 2, 11));
+    assert_eq!(size(&format!("{leaves}/02080100")), (7, 2, 13));
+    assert_eq!(size(&format!("{leaves}/02070000/03080201/04020303")), (20, 6, 17 * 17));
+    assert_eq!(size("000101/01070000/02080101"), (4, 4, 6));
+    let states = |row: &str| oracle::steps::derive(&model(row)).expect("small").states;
+    assert_eq!(states(&format!("{leaves}/02070001")), [0, 1, 2, 4, 9, 17, 25, 33]);
+    assert_eq!(states(&format!("{leaves}/02080100")), [0, 1, 2, 4, 6, 8, 10, 12, 14, 16, 18, 33, 65]);
+}
+
+#[test]
+fn refusals_of_enablings_and_disablings() {
+    for kind in ["07", "08"] {
+        for length in [0, 1, 3, 4, 253] {
+            let body = "00".repeat(length);
+            assert_eq!(refusal(&format!("{EXITS}/01{kind}{body}")), Some((4, 1)), "{kind} {length}");
+        }
+        for operands in ["0100", "0001", "0101", "4000", "00FF"] {
+            assert_eq!(refusal(&format!("{EXITS}/01{kind}{operands}")), Some((5, 1)), "{kind} {operands}");
+        }
+        assert_eq!(refusal(&format!("00{kind}0000")), Some((5, 0)));
+        assert_eq!(refusal(&format!("{EXITS}/01{kind}0000")), None);
+        let doubled = "000101/01020000/02020101/03020202/04020303/05020404";
+        assert_eq!(refusal(&format!("{doubled}/06{kind}0505")), None);
+        assert_eq!(refusal(&format!("{doubled}/06020505/07{kind}0600")), Some((6, 7)));
+        assert_eq!(refusal(&format!("{doubled}/06020505/07{kind}0006")), Some((6, 7)));
+    }
+    assert_eq!(refusal(&format!("{EXITS}/01090000")), Some((4, 1)));
+}
+
+#[test]
+fn added_bits_count() {
+    // 18 bits in line 2.
+    let head = "000140/01020000/02020100";
+    assert_eq!(refusal(&format!("{head}/030120/04070203")), None);
+    assert_eq!(refusal(&format!("{head}/030140/04070203")), Some((6, 4)));
+    assert_eq!(refusal(&format!("{head}/030110/04080302")), None);
+    assert_eq!(refusal(&format!("{head}/030120/04080302")), Some((6, 4)));
+    assert_eq!(refusal(&format!("{head}/030120/04080302/050101")), Some((6, 4)));
+}
+
+#[test]
+fn disabling_breaks_weak_equality_in_its_second() {
+    let (plain, silent) = ("0102000201", "0103000001010202");
+    let at = |left: &str, right: &str| answer_at((left, right), LIMIT, MAX_TABLE);
+    let stopped = |by: &str| format!("000102000401/01{by}/02080001");
+    assert!(
+        at(&format!("00{plain}"), &format!("00{silent}")).starts_with("strong different 1 | weak equal 3 | ")
+    );
+    assert!(at(&stopped(plain), &stopped(silent)).starts_with("strong different 1 | weak different 2 | "));
+    let stopping = |first: &str| format!("00{first}/01{OTHER}/02080001");
+    assert!(at(&stopping(plain), &stopping(silent)).starts_with("strong different 1 | weak equal 3 | "));
 }

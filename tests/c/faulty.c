@@ -20,7 +20,7 @@ uint64_t __wrap_seipolku_look_up(LOOK_UP_ARGUMENTS);
 uint64_t __wrap_seipolku_model(MODEL_ARGUMENTS);
 
 enum { ACCEPTED = ANSWERED };
-enum { LEAF = 1, COMPOSE = 2, JOINT = 6 }; /* kinds of frames */
+enum { LEAF = 1, COMPOSE = 2, JOINT = 6, ENABLE = 7, DISABLE = 8, UNKNOWN = 9 }; /* kinds of frames */
 
 static int fault(const char *name) {
     const char *wanted = getenv("FAULT");
@@ -41,15 +41,40 @@ static const uint8_t *after_line(const uint8_t *text) {
     return text;
 }
 
-/* The bits of a line in a text that is accepted up to it, or refused there by its bits or uses. */
-static unsigned bits_of(const uint8_t *text, uint64_t line) {
-    unsigned bits[MAX_LINES];
+static const uint8_t *line_of(const uint8_t *text, uint64_t line) {
+    while (line-- > 0) text = after_line(text);
+    return text;
+}
+
+/* The bits that an enabling or disabling adds to those of its operands. */
+static unsigned added_by(unsigned kind) { return kind == ENABLE ? 1 : kind == DISABLE ? 2 : 0; }
+
+typedef struct { unsigned bits, added; uint64_t states; } Size;
+
+/* The size of a line in a text that is accepted up to it, or refused there by its bits or uses: its bits, how many of them are added ones, and its states. */
+static Size size_of(const uint8_t *text, uint64_t line) {
+    Size size[MAX_LINES];
     for (uint64_t k = 0; k <= line; k++, text = after_line(text)) {
-        unsigned kind = value(text + 2), first = value(text + 4);
-        bits[k] = kind == LEAF ? width_of(first) : bits[first];
-        if (kind == COMPOSE || kind == JOINT) bits[k] += bits[value(text + 6)];
+        unsigned kind = value(text + 2), n = value(text + 4);
+        if (kind == LEAF) {
+            size[k] = (Size){width_of(n), 0, n};
+            continue;
+        }
+        size[k] = size[n];
+        if (kind != COMPOSE && kind != JOINT && !added_by(kind)) continue;
+        const Size first = size[n], second = size[value(text + 6)];
+        size[k] = (Size){first.bits + second.bits + added_by(kind), first.added + second.added + added_by(kind), first.states * second.states};
+        if (added_by(kind)) size[k].states = added_by(kind) * first.states + second.states;
     }
-    return bits[line];
+    return size[line];
+}
+
+static unsigned bits_of(const uint8_t *text, uint64_t line) { return size_of(text, line).bits; }
+
+/* Whether a line that is refused by its size would not have too many bits without the added ones. */
+static int added_too_many(const uint8_t *text, uint64_t line) {
+    const Size size = size_of(text, line);
+    return size.bits > MAX_BITS && size.bits - size.added <= MAX_BITS;
 }
 
 /* The first line of an accepted text, of so many, with more bits than once were allowed; the number of lines if there is none. */
@@ -62,7 +87,11 @@ static uint64_t first_wide(const uint8_t *text, uint64_t lines) {
 /* Faults in the limit of bits that a comparison keeps to. */
 static uint64_t bit_limit_fault(uint64_t kind, const uint8_t *left, size_t left_len, const uint8_t *right, const uint64_t *answer) {
     uint64_t told[MODEL_WORDS];
-    if (fault("a bit too many taken") && kind == REFUSED && answer[0] == 6 && bits_of(answer[1] ? right : left, answer[2]) == MAX_BITS + 1) return ANSWERED;
+    if (kind == REFUSED && answer[0] == 6) {
+        const uint8_t *refused = answer[1] ? right : left;
+        if (fault("a bit too many taken") && bits_of(refused, answer[2]) == MAX_BITS + 1) return ANSWERED;
+        if (fault("added bits not counted") && added_too_many(refused, answer[2])) return ANSWERED;
+    }
     if (fault("former limit of bits") && kind == ANSWERED && __real_seipolku_model((uint8_t *)left, left_len, told, MODEL_WORDS) == ACCEPTED)
         return first_wide(left, told[1]) < told[1] ? REFUSED : kind;
     return kind;
@@ -204,7 +233,38 @@ static uint64_t answer_length_fault(COMPARE_ARGUMENTS) {
     return kind;
 }
 
+/* Faults by which frames of one kind are taken as frames of another, or of the same kind with their operands exchanged. */
+static const struct { const char *name; unsigned kind, taken; } frame_faults[] = {
+    {"enabling taken as composition", ENABLE, COMPOSE},
+    {"enabling taken as disabling", ENABLE, DISABLE},
+    {"disabling taken as enabling", DISABLE, ENABLE},
+    {"operands of an enabling exchanged", ENABLE, ENABLE},
+    {"operands of a disabling exchanged", DISABLE, DISABLE},
+};
+
+/* An accepted text as the given one of these faults takes it. */
+static uint8_t *taken_as(uint8_t *text, size_t text_len, size_t given) {
+    static uint8_t taken[LONGEST_TEXT];
+    uint64_t told[MODEL_WORDS];
+    if (text_len > LONGEST_TEXT || __real_seipolku_model(text, text_len, told, MODEL_WORDS) != ACCEPTED) return text;
+    memcpy(taken, text, text_len);
+    for (uint8_t *line = taken; line < taken + text_len; line = (uint8_t *)after_line(line)) {
+        if (value(line + 2) != frame_faults[given].kind) continue;
+        uint8_t first[2] = {line[4], line[5]};
+        if (frame_faults[given].taken == frame_faults[given].kind) memcpy(line + 4, line + 6, 2), memcpy(line + 6, first, 2);
+        line[3] = (uint8_t)('0' + frame_faults[given].taken);
+    }
+    return taken;
+}
+
+static uint8_t *text_fault(uint8_t *text, size_t text_len) {
+    for (size_t k = 0; k < sizeof frame_faults / sizeof *frame_faults; k++)
+        if (fault(frame_faults[k].name)) return taken_as(text, text_len, k);
+    return text;
+}
+
 uint64_t __wrap_seipolku_compare(COMPARE_ARGUMENTS) {
+    left = text_fault(left, left_len);
     if (fault("limit 0 taken as 1") && limit == 0) limit = 1;
     if (fault("limit passed by")) limit = UINT64_MAX;
     if (fault("long text cut") && left_len > LONGEST_TEXT) left_len = LONGEST_TEXT;
@@ -268,6 +328,30 @@ uint64_t __wrap_seipolku_look_up(LOOK_UP_ARGUMENTS) {
     return found;
 }
 
+/* Faults in the words on a model whose last line is an enabling or disabling. */
+static void model_sequence_fault(const uint8_t *text, uint64_t *answer) {
+    const uint8_t *last = line_of(text, answer[1] - 1);
+    unsigned kind = value(last + 2);
+    if (!added_by(kind)) return;
+    const uint64_t first = size_of(text, value(last + 4)).states, second = size_of(text, value(last + 6)).states;
+    if (fault("model, bits without the added ones")) answer[0] -= added_by(kind);
+    if (fault("model, states of an enabling as a product") && kind == ENABLE) answer[3] = first * second;
+    if (fault("model, states of a disabling without both alive") && kind == DISABLE) answer[3] = first + second;
+}
+
+/* Whether a fault takes a line that is refused with 4 or 5. */
+static int line_taken(const uint8_t *text, const uint64_t *answer) {
+    const uint8_t *line = line_of(text, answer[2]);
+    size_t numbers = (size_t)(after_line(line) - line - 5) / 2; /* in the body: without the line's number, the kind and the end */
+    unsigned kind = value(line + 2);
+    if (answer[0] == 5 && added_by(kind) && (value(line + 4) == answer[2] || value(line + 6) == answer[2]))
+        return fault("model, 07 and 08 of their own line taken");
+    if (answer[0] != 4) return 0;
+    if (kind == ENABLE && numbers == 1) return fault("model, 07 of one number taken");
+    if (kind == DISABLE && numbers == 3) return fault("model, 08 of three numbers taken");
+    return kind == UNKNOWN && fault("model, 09 taken");
+}
+
 /* Faults in the words of an answer that is long enough. */
 static void model_answer_fault(uint64_t kind, uint64_t *answer) {
     if (kind == REFUSED) {
@@ -284,9 +368,11 @@ static void model_answer_fault(uint64_t kind, uint64_t *answer) {
     if (fault("model, sixth word")) answer[5]++;
 }
 
-/* Faults in the limit of bits that a text is judged by. */
-static uint64_t bits_fault(uint64_t kind, const uint8_t *text, const uint64_t *answer) {
+/* Faults in how a line is judged, and in the limit of bits. */
+static uint64_t judging_fault(uint64_t kind, const uint8_t *text, const uint64_t *answer) {
     int former = fault("model, former limit of bits"), unused = fault("model, former limit of bits where unused");
+    if (kind == REFUSED && (answer[0] == 4 || answer[0] == 5)) return line_taken(text, answer) ? ACCEPTED : kind;
+    if (kind == REFUSED && answer[0] == 6 && fault("model, added bits not counted")) return added_too_many(text, answer[2]) ? ACCEPTED : kind;
     if (kind == REFUSED) return fault("model, a bit too many taken") && answer[0] == 6 && bits_of(text, answer[2]) == MAX_BITS + 1 ? ACCEPTED : kind;
     if (!former && !(unused && answer[0] <= FORMER_BITS)) return kind;
     return first_wide(text, answer[1]) < answer[1] ? REFUSED : kind;
@@ -305,7 +391,8 @@ uint64_t __wrap_seipolku_model(MODEL_ARGUMENTS) {
         if (fault("model, short answer written") && words) answer[0] = 0;
         return fault("model, short answer taken") ? 0 : kind;
     }
-    uint64_t returned = bits_fault(kind, text, answer);
+    uint64_t returned = judging_fault(kind, text, answer);
+    if (kind != REFUSED) model_sequence_fault(text, answer);
     model_answer_fault(kind, answer);
     if (fault("model, seventh word") && words > MODEL_WORDS) answer[MODEL_WORDS] = 0;
     return fault("model, refused as accepted") ? ACCEPTED : returned;

@@ -1,5 +1,6 @@
 /* Runs the cases of `oracle stream` through the library: `oracle stream ... | runner LABEL`. All that is lent is filled with other bytes before a call, and
-   checked after it. Prints each case that differs with the label and the case's number, then "LABEL: N agree, M differ"; fails if M is not 0. */
+   checked after it. Prints each case that differs with the label and the case's number, then "LABEL: N agree, M differ", and where pairs were compared how many
+   of them have an enabling or disabling (kinds 07 and 08); fails if M is not 0. */
 #include "../../include/seipolku.h"
 #include "limits.h"
 #include "records.h"
@@ -7,10 +8,11 @@
 #include <inttypes.h>
 #include <signal.h>
 #include <stdio.h>
+#include <stdlib.h>
 #include <string.h>
 #include <unistd.h>
 
-enum { LENT = 5, MOST_REPORTS = 20, ACTIONS = 64, EXPECTED = 5 };
+enum { LENT = 5, MOST_REPORTS = 20, ACTIONS = 64, EXPECTED = 5, MOST_CODES = 100 };
 
 /* The header names the limits of these tests, and the numbers and words of answers. */
 #define SAME(name, value) _Static_assert((int)(name) == (int)(value), #name)
@@ -50,7 +52,7 @@ typedef struct { uint64_t limit, table[3], work, words, seed, kind, expected[EXP
 static Slice left, right, level, low, high, work, answer;
 static Slice *const lent[LENT] = {&level, &low, &high, &work, &answer};
 static const size_t width[LENT] = {1, 4, 4, 4, 8};
-static uint64_t agree, differ, current;
+static uint64_t agree, differ, current, pairs, sequenced;
 static const char *label;
 
 /* A slice of length 0 has any pointer, also none. */
@@ -221,6 +223,7 @@ static void pair(void) {
     current = number();
     bytes(&left);
     bytes(&right);
+    pairs++, sequenced += number();
 }
 
 static int call(void) {
@@ -243,44 +246,53 @@ static uint64_t any_code(uint64_t *seed) {
     return *seed >> (64 - MAX_BITS);
 }
 
-/* Every step of a relation, the values by now code, action and next code; `place` is that of the now code. */
-static void look_up_steps(uint64_t root, uint64_t bits, const Slice *values, int place, uint64_t seed) {
-    const uint8_t *value = values->at;
-    uint64_t codes = (uint64_t)1 << bits;
-    for (uint64_t now = 0; now < codes; now++)
+/* What is looked up of a model: its bits, codes (all of them, or the states'), and the values by now code, action and next code. */
+typedef struct { uint64_t bits, codes, code[MOST_CODES]; Slice values; } Relation;
+
+static void relation(Relation *r) {
+    r->bits = number(), r->codes = number();
+    if (r->codes > MOST_CODES) printf("%s: more codes than there is room for\n", label), exit(1);
+    numbers(r->code, r->codes);
+    bytes(&r->values);
+}
+
+/* Every step of a relation; `place` is that of the now code. */
+static void look_up_steps(uint64_t root, const Relation *r, int place, uint64_t seed) {
+    const uint8_t *value = r->values.at;
+    uint64_t others = ~(((uint64_t)1 << r->bits) - 1);
+    for (uint64_t now = 0; now < r->codes; now++)
         for (uint64_t action = 0; action < ACTIONS; action++)
-            for (uint64_t then = 0; then < codes; then++) {
+            for (uint64_t then = 0; then < r->codes; then++) {
                 uint64_t code[4];
                 for (int k = 0; k < 4; k++) code[k] = any_code(&seed);
-                code[place] = now | (code[place] & ~(codes - 1));
-                code[place + 1] = then | (code[place + 1] & ~(codes - 1));
+                code[place] = r->code[now] | (code[place] & others);
+                code[place + 1] = r->code[then] | (code[place + 1] & others);
                 look_up(root, action, code, *value++);
             }
 }
 
 /* Every pair of an iterate, the values by left and right code. */
-static void look_up_pairs(uint64_t root, uint64_t left_bits, uint64_t right_bits, const Slice *values, uint64_t seed) {
+static void look_up_pairs(uint64_t root, const Relation *l, const Relation *r, const Slice *values, uint64_t seed) {
     const uint8_t *value = values->at;
-    for (uint64_t x = 0; x >> left_bits == 0; x++)
-        for (uint64_t y = 0; y >> right_bits == 0; y++) {
-            uint64_t code[4] = {x, any_code(&seed), y, any_code(&seed)};
+    for (uint64_t x = 0; x < l->codes; x++)
+        for (uint64_t y = 0; y < r->codes; y++) {
+            uint64_t code[4] = {l->code[x], any_code(&seed), r->code[y], any_code(&seed)};
             look_up(root, any_code(&seed) % ACTIONS, code, *value++);
         }
 }
 
 /* What the table shows after an answer: both relations, and the iterate of each mode that is equal. */
 static void shown(int answered) {
-    static Slice left_steps, right_steps, strong, weak;
-    uint64_t h[3]; /* seed, left bits, right bits */
-    const uint64_t *w = (const uint64_t *)(void *)answer.at;
-    numbers(h, 3);
-    bytes(&left_steps), bytes(&right_steps), bytes(&strong), bytes(&weak);
+    static Relation of_left, of_right;
+    static Slice strong, weak;
+    const uint64_t seed = number(), *w = (const uint64_t *)(void *)answer.at;
+    relation(&of_left), relation(&of_right), bytes(&strong), bytes(&weak);
     if (!answered) return;
     lock_table();
-    look_up_steps(w[LEFT_ROOT], h[1], &left_steps, 0, h[0]);
-    look_up_steps(w[RIGHT_ROOT], h[2], &right_steps, 2, h[0]);
-    if (strong.size) look_up_pairs(w[STRONG + ROOT], h[1], h[2], &strong, h[0]);
-    if (weak.size) look_up_pairs(w[WEAK + ROOT], h[1], h[2], &weak, h[0]);
+    look_up_steps(w[LEFT_ROOT], &of_left, 0, seed);
+    look_up_steps(w[RIGHT_ROOT], &of_right, 2, seed);
+    if (strong.size) look_up_pairs(w[STRONG + ROOT], &of_left, &of_right, &strong, seed);
+    if (weak.size) look_up_pairs(w[WEAK + ROOT], &of_left, &of_right, &weak, seed);
     unlock_table();
 }
 
@@ -338,7 +350,9 @@ int main(int argc, char **argv) {
         case TABLE: table(); break;
         case ASK: ask(); break;
         case END:
-            printf("%s: %" PRIu64 " agree, %" PRIu64 " differ\n", label, agree, differ);
+            printf("%s: %" PRIu64 " agree, %" PRIu64 " differ", label, agree, differ);
+            if (pairs) printf("; of %" PRIu64 " pairs %" PRIu64 " with 07 or 08", pairs, sequenced);
+            putchar('\n');
             return differ != 0 || agree == 0;
         default:
             printf("%s: no such record\n", label);
