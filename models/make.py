@@ -1,7 +1,7 @@
 #!/usr/bin/env python3
 """Writes the model texts (*.hex), NAMES.md, EXPECTED.tsv and vectors.tsv from readable definitions.
 
-Run `python3 make.py` after building the oracle; it takes under a minute. The verdicts below were settled
+Run `python3 make.py` after building the oracle; it takes a minute or two. The verdicts below were settled
 by argument (README.md); the script stops if the oracle gives another one.
 """
 
@@ -97,6 +97,14 @@ class Model:
     def joint(self, one, other, channels):
         return self.listed(6, "joint", [one, other], channels)
 
+    def enable(self, first, second):
+        """>> of LOTOS."""
+        return self.add([7, first, second], f"enable {first}, {second}")
+
+    def disable(self, first, second):
+        """[> of LOTOS."""
+        return self.add([8, first, second], f"disable {first}, {second}")
+
     def listed(self, kind, word, lines, channels):
         numbers = [self.family.channel(c) for c in channels]
         text = f"{word} {', '.join(map(str, lines))} on {' '.join(channels) or 'no channel'}"
@@ -129,7 +137,7 @@ class Model:
             if kind == 1:
                 used.update(action // 2 for action in operands[2::3])
             else:
-                used.update(operands[2 if kind in (2, 6) else 1:])
+                used.update(operands[2 if kind in (2, 6, 7, 8) else 1:])
         head = "gate" if self.family.gates else "channel"
         return [f"{head} {n} {spelled(c)}" for c, n in self.family.numbers.items() if n in used]
 
@@ -157,6 +165,34 @@ def single_leaf(family, name, steps):
     model = Model(family)
     model.leaf(name, steps)
     return model.save(name)
+
+
+def built(family, name, make):
+    """`make` adds the lines to a new model."""
+    model = Model(family)
+    make(model)
+    return model.save(name)
+
+
+def row(model, join, leaves, right=False):
+    """The leaves, each with its name, steps and (where it has none) states, put together by `join` from the left or
+    from the right. Leaves of one name have one line."""
+    lines = {}
+    for name, *rest in leaves:
+        if name not in lines:
+            lines[name] = model.leaf(name, *rest)
+    total, *others = [lines[leaf[0]] for leaf in (reversed(leaves) if right else leaves)]
+    for other in others:
+        total = join(model, *((other, total) if right else (total, other)))
+    return total
+
+
+def of_leaves(family, name, join, *leaves):
+    return built(family, name, lambda model: row(model, join, leaves))
+
+
+def from_the_right(family, name, join, *leaves):
+    return built(family, name, lambda model: row(model, join, leaves, right=True))
 
 
 def counter(places, up, down):
@@ -433,7 +469,8 @@ def transport_handler():
     family = Family("LOTOS transport handler", gates=True,
                     channels="CInd CReq CCnf DisInd CRes DisReq halt DatReq DatInd")
     for make in (connection_phase, data_and_term, whole_handler, connection_observed, exit_alone, term_phase,
-                 two_term_phases):
+                 two_term_phases, disabled_data, unfolded_handler, one_connection, printed_rules, hidden_phases,
+                 two_enabled_terms):
         make(family)
     family.finish()
 
@@ -493,19 +530,21 @@ def data_and_term(family):
     pair(both(Model.compose, "lotos_data_term_composed"), apart, "different", "different")
 
 
+AGAIN = data_until_end("over") + [("over", TAU, "conn")]
+HANDLER = connect("connected") + [("connected", TAU, "data")] + AGAIN
+
+
 def whole_handler(family):
     """With a tau step for each enabling."""
-    rest = data_until_end("over") + [("over", TAU, "conn")]
-    whole = connect("connected") + [("connected", TAU, "data")] + rest
-    handler = single_leaf(family, "lotos_handler", whole)
+    handler = single_leaf(family, "lotos_handler", HANDLER)
     short = single_leaf(family, "lotos_handler_short", connect("data") + data_until_end("conn"))
     pair(handler, short, "different", "equal")
 
     model = Model(family)
-    model.restrict(model.leaf("handler", whole), ["CInd"])
+    model.restrict(model.leaf("handler", HANDLER), ["CInd"])
     caller = [("conn", TAU, "calling"), ("calling", "CReq!", "requested"), ("requested", "CCnf!", "connected"),
               ("requested", "DisInd!", "conn"), ("connected", TAU, "data")]
-    pair(model.save("lotos_handler_no_calls"), single_leaf(family, "lotos_caller", caller + rest), "equal", "equal")
+    pair(model.save("lotos_handler_no_calls"), single_leaf(family, "lotos_caller", caller + AGAIN), "equal", "equal")
 
 
 def connection_observed(family):
@@ -573,6 +612,129 @@ def two_term_phases(family):
     pair(both(Model.compose)[0].save("lotos_two_terms_composed"), service, "different", "different")
     pair(hidden(beside, "lotos_two_terms_hidden"), "lotos_exit", "different", "equal")
     pair(hidden(Model.compose, "lotos_two_terms_composed_hidden"), "lotos_exit_twice", "different", "equal")
+
+
+# Enabling and disabling as document 000 has them.
+
+GATES = ["CReq", "CInd", "CRes", "CCnf", "DatReq", "DatInd", "DisReq", "DisInd"]
+CONN_PHASE = ("connect", connect("exits") + [EXITS])
+DATA_PHASE = ("data", DATA)
+TERM_PHASE = ("term", TERM + [EXITS])
+EXIT_PHASE = ("phase", [EXITS])
+NEVER_EXITS = data_until_end("stop")    # Data_Term_Phase, if it were noexit as printed
+
+
+def data_term_phase(model):
+    return model.disable(model.leaf(*DATA_PHASE), model.leaf(*TERM_PHASE))
+
+
+def disabled_data(family):
+    """Data_Term_Phase: Data_Phase [> Term_Phase."""
+    disabled = built(family, "lotos_data_disabled", data_term_phase)
+    pair(disabled, "lotos_data_term", "equal", "equal")
+    pair(disabled, "lotos_data_term_gate", "different", "equal")
+    pair(disabled, single_leaf(family, "lotos_data_noexit", NEVER_EXITS), "different", "different")
+
+    enabled = of_leaves(family, "lotos_data_enabled", Model.enable, DATA_PHASE, TERM_PHASE)
+    pair(enabled, single_leaf(family, "lotos_data", DATA), "equal", "equal")
+    pair(enabled, "lotos_data_term", "different", "different")
+
+
+def unfolded_handler(family):
+    """Handler is Conn_Phase >> Connected, and Connected is Data_Term_Phase >> Handler; the last Handler is a leaf."""
+    def connected(model):
+        return model.enable(data_term_phase(model), model.leaf("handler", HANDLER))
+
+    def regrouped(model):
+        once = model.enable(model.leaf(*CONN_PHASE), data_term_phase(model))
+        return model.enable(once, model.leaf("handler", HANDLER))
+
+    model = Model(family)
+    model.leaf("connected", HANDLER, states=["data"])
+    flat = model.save("lotos_connected")
+    pair(built(family, "lotos_connected_unfolded", connected), flat, "equal", "equal")
+    unfolded = built(family, "lotos_handler_unfolded", lambda m: m.enable(m.leaf(*CONN_PHASE), connected(m)))
+    pair(unfolded, "lotos_handler", "equal", "equal")
+    pair(unfolded, "lotos_handler_short", "different", "equal")
+    pair(built(family, "lotos_handler_regrouped", regrouped), unfolded, "equal", "equal")
+
+    exits = HANDLER + [(state, EXIT, "stop") for state in ("connected", "over")]
+    pair(unfolded, single_leaf(family, "lotos_handler_printed", exits), "different", "different")
+    stuck = of_leaves(family, "lotos_connected_noexit", Model.enable, ("data until the end", NEVER_EXITS),
+                      ("handler", HANDLER))
+    pair(stuck, "lotos_data_noexit", "equal", "equal")
+    pair(stuck, flat, "different", "different")
+
+
+def one_connection(family):
+    """Conn_Phase >> Data_Term_Phase, which ends by exit."""
+    flat = connect("connected") + [("connected", TAU, "data")] + data_until_end("exits") + [EXITS]
+    service = single_leaf(family, "lotos_once_service", flat)
+    once = built(family, "lotos_once", lambda m: m.enable(m.leaf(*CONN_PHASE), data_term_phase(m)))
+    pair(once, service, "equal", "equal")
+
+    def regrouped(model):
+        phases = model.enable(model.leaf(*CONN_PHASE), model.leaf(*DATA_PHASE))
+        return model.disable(phases, model.leaf(*TERM_PHASE))
+
+    pair(built(family, "lotos_once_regrouped", regrouped), service, "different", "different")
+
+
+def printed_rules(family):
+    """exit >> Term_Phase and exit [> Term_Phase: by ISO 8807, expanded, and by the formulas of section 4.1."""
+    enabled = of_leaves(family, "lotos_exit_enables", Model.enable, EXIT_PHASE, TERM_PHASE)
+    pair(enabled, single_leaf(family, "lotos_i_term", [("phase", TAU, "term")] + TERM + [EXITS]), "equal", "equal")
+    pair(enabled, single_leaf(family, "lotos_term", TERM + [EXITS]), "different", "equal")
+    any_event = [("phase", word, "term") for word in [TAU, EXIT] + [gate + "!" for gate in GATES]]
+    printed = single_leaf(family, "lotos_exit_enables_printed", any_event + TERM + [EXITS])
+    pair(enabled, printed, "different", "different")
+
+    disabled = of_leaves(family, "lotos_exit_disabled", Model.disable, EXIT_PHASE, TERM_PHASE)
+    choice = [("term", EXIT, "stop")] + TERM + [EXITS]
+    pair(disabled, single_leaf(family, "lotos_exit_or_term", choice), "equal", "equal")
+    ends = [("ends", "DisReq!", "exits"), EXITS]
+    alive = [step for s in ("phase", "over") for step in ((s, TAU, "ends"), (s, "DisInd!", "exits"))]
+    printed = single_leaf(family, "lotos_exit_disabled_printed", [("phase", EXIT, "over")] + alive + ends)
+    pair(disabled, printed, "different", "different")
+
+
+def hidden_phases(family):
+    """hide H in a disabling and in an enabling, and in their operands."""
+    gates = ["DisReq", "DisInd"]
+    whole = built(family, "lotos_data_disabled_hidden", lambda m: m.hide(data_term_phase(m), gates))
+
+    def by_hidden(model):
+        return model.disable(model.leaf(*DATA_PHASE), model.hide(model.leaf(*TERM_PHASE), gates))
+
+    parts = built(family, "lotos_data_disabled_by_hidden", by_hidden)
+    pair(whole, parts, "equal", "equal")
+    by_exit = of_leaves(family, "lotos_data_disabled_by_exit", Model.disable, DATA_PHASE, EXIT_PHASE)
+    pair(parts, by_exit, "different", "different")
+
+    def once(model):
+        return model.hide(model.enable(model.leaf(*CONN_PHASE), data_term_phase(model)), gates)
+
+    def once_of_hidden(model):
+        return model.enable(model.hide(model.leaf(*CONN_PHASE), gates), model.hide(data_term_phase(model), gates))
+
+    pair(built(family, "lotos_once_hidden", once), built(family, "lotos_once_of_hidden", once_of_hidden),
+         "equal", "equal")
+
+
+def two_enabled_terms(family):
+    """exit >> Term_Phase of two connections, each enabled alone or both together."""
+    def each(model):
+        one = model.enable(model.leaf(*EXIT_PHASE), model.leaf(*TERM_PHASE))
+        return beside(model, one, model.relabel(one, DisReq="DisReq2", DisInd="DisInd2"))
+
+    def together(model):
+        phase, term = model.leaf(*EXIT_PHASE), model.leaf(*TERM_PHASE)
+        terms = beside(model, term, model.relabel(term, DisReq="DisReq2", DisInd="DisInd2"))
+        return model.enable(beside(model, phase, phase), terms)
+
+    pair(built(family, "lotos_two_enabled", each), "lotos_two_terms", "different", "equal")
+    pair(built(family, "lotos_two_enabled_together", together), "lotos_two_terms", "different", "equal")
+    pair("lotos_two_enabled", "lotos_two_enabled_together", "different", "equal")
 
 
 # Two handlers of document 000, one of which calls the other through a provider; each of the three ends by exit.
@@ -660,36 +822,8 @@ def shuttle():
     pair(one_move(True, "shuttle_one"), small, "different", "equal")
     pair(one_move(False, "shuttle_one_faulty"), small, "different", "different")
 
-    def journal(k, drop):
-        """n moves pending; in the states `new` the last of them is not flushed yet."""
-        flushed = [f"{n} pending" for n in range(k + 1)]
-        new = [None] + [f"{n} pending, last new" for n in range(1, k + 1)]
-        steps = []
-        for n in range(k):
-            steps += [(flushed[n], "log?", new[n + 1]), (new[n + 1], "flush!", flushed[n + 1]),
-                      (flushed[n + 1], "go!", flushed[n])]
-        steps += [(new[n], "go!", new[n - 1]) for n in range(2, k + 1)]
-        steps += [(state, "drop!", state) for state in flushed]
-        if drop == "survives":
-            steps += [(state, "drop!", state) for state in new[1:]]
-        if drop == "loses":
-            steps += [(new[n], "drop!", flushed[n - 1]) for n in range(1, k + 1)]
-        return steps
-
     def station(k, drop, name):
-        """While the supply is off, nothing is flushed, handed to the drive or done."""
-        model = Model(family)
-        cell = model.leaf("one-place cell", [("empty", "in?", "full"), ("full", "out!", "empty")])
-        link = model.relabel(cell, **{"in": "move", "out": "log"})
-        book = model.leaf("journal", journal(k, drop))
-        drive = model.leaf("drive", [("idle", "go!", "busy"), ("busy", "done!", "idle")])
-        supply = model.leaf("supply", [("on", "drop!", "off"), ("off", "up!", "on"), ("on", "flush!", "on"),
-                                       ("on", "go!", "on"), ("on", "done!", "on")])
-        driven = model.joint(book, drive, ["go"])
-        powered = model.joint(driven, supply, ["drop", "flush", "go", "done"])
-        inner = model.hide(powered, ["drop", "up", "flush", "go"])
-        model.restrict(model.compose(link, inner), ["log"])
-        return model.save(name)
+        return built(family, name, lambda model: station_of_leaves(model, k, drop))
 
     for k in (1, 2, 3, 5, 7):
         service = shuttle_service(family, k)
@@ -699,11 +833,48 @@ def shuttle():
     pair("shuttle1", "shuttle1_flushed_first", "different", "equal")
     pair("shuttle1", "shuttle1_faulty", "different", "different")
     pair("shuttle2", "shuttle1_service", "different", "different")
-    shuttle_of_cells(family)
-    parked_drive(family)
-    last_move(family)
-    shuttle_that_ends(family)
+    for make in (shuttle_of_cells, parked_drive, last_move, shuttle_that_ends, start_then_run, powered_start,
+                 stopped_drive, stopped_station, started_and_stopped):
+        make(family)
     family.finish()
+
+
+def counting_journal(k, drop):
+    """n moves pending; in the states `new` the last of them is not flushed yet."""
+    flushed = [f"{n} pending" for n in range(k + 1)]
+    new = [None] + [f"{n} pending, last new" for n in range(1, k + 1)]
+    steps = []
+    for n in range(k):
+        steps += [(flushed[n], "log?", new[n + 1]), (new[n + 1], "flush!", flushed[n + 1]),
+                  (flushed[n + 1], "go!", flushed[n])]
+    steps += [(new[n], "go!", new[n - 1]) for n in range(2, k + 1)]
+    steps += [(state, "drop!", state) for state in flushed]
+    if drop == "survives":
+        steps += [(state, "drop!", state) for state in new[1:]]
+    if drop == "loses":
+        steps += [(new[n], "drop!", flushed[n - 1]) for n in range(1, k + 1)]
+    return steps
+
+
+DRIVE = [("idle", "go!", "busy"), ("busy", "done!", "idle")]
+SUPPLY = [("on", "drop!", "off"), ("off", "up!", "on"), ("on", "flush!", "on"), ("on", "go!", "on"),
+          ("on", "done!", "on")]
+
+
+def powered_parts(model, book, drive):
+    """Journal, drive and supply. While the supply is off, nothing is flushed, handed to the drive or done."""
+    supply = model.leaf("supply", SUPPLY)
+    driven = model.joint(book, drive, ["go"])
+    powered = model.joint(driven, supply, ["drop", "flush", "go", "done"])
+    return model.hide(powered, ["drop", "up", "flush", "go"])
+
+
+def station_of_leaves(model, k, drop):
+    cell = model.leaf("one-place cell", [("empty", "in?", "full"), ("full", "out!", "empty")])
+    link = model.relabel(cell, **{"in": "move", "out": "log"})
+    book = model.leaf("journal", counting_journal(k, drop))
+    inner = powered_parts(model, book, model.leaf("drive", DRIVE))
+    return model.restrict(model.compose(link, inner), ["log"])
 
 
 def shuttle_service(family, k):
@@ -872,6 +1043,287 @@ def shuttle_that_ends(family):
     pair(model.save("shuttle_end_composed"), service, "different", "different")
 
 
+# Start-up then run: the journal tests itself, the drive goes home, and both end by exit.
+
+TEST = [("untested", "test!", "tested"), ("tested", EXIT, "over")]
+HOME = [("away", "home!", "homed"), ("homed", EXIT, "over")]
+BOOK = [("empty", "move?", "full"), ("full", "go!", "empty")]
+STARTS = [("untested, away", "test!", "tested"), ("untested, away", "home!", "homed"), ("tested", "home!", "n0"),
+          ("homed", "test!", "n0")]
+
+
+def start_up(model, join=beside, homing=HOME):
+    return join(model, model.leaf("self test", TEST), model.leaf("homing", homing))
+
+
+def running(model):
+    """A journal for one move, and the drive."""
+    return model.hide(model.joint(model.leaf("journal", BOOK), model.leaf("drive", DRIVE), ["go"]), ["go"])
+
+
+def start_then_run(family):
+    def started(name, **how):
+        return built(family, name, lambda m: m.enable(start_up(m, **how), running(m)))
+
+    service = single_leaf(family, "shuttle_start_service", STARTS + counter(2, "move?", "done!"))
+    pair(started("shuttle_start"), service, "different", "equal")
+    pair(started("shuttle_start_composed", join=Model.compose), service, "different", "different")
+    early = started("shuttle_start_early", homing=HOME + [("away", EXIT, "over")])
+    pair(early, service, "different", "different")
+
+    def seen(model):
+        """Journal and drive wait for the exit of the start-up, joined with it."""
+        book = model.leaf("journal", [("waits", EXIT, "empty")] + BOOK)
+        drive = model.leaf("drive", [("waits", EXIT, "idle")] + DRIVE)
+        return model.hide(beside(model, start_up(model), model.joint(book, drive, ["go"])), ["go"])
+
+    exits = [(source, word, "started" if target == "n0" else target) for source, word, target in STARTS]
+    exits = exits + [("started", EXIT, "n0")] + counter(2, "move?", "done!")
+    pair(built(family, "shuttle_start_seen", seen), service, "different", "different")
+    pair("shuttle_start_seen", single_leaf(family, "shuttle_start_seen_service", exits), "different", "equal")
+
+    def each(model):
+        book = model.enable(model.leaf("self test", TEST), model.leaf("journal", BOOK))
+        drive = model.enable(model.leaf("homing", HOME), model.leaf("drive", DRIVE))
+        return model.hide(model.joint(book, drive, ["go"]), ["go"])
+
+    sooner = [("tested", "move?", "full, away"), ("full, away", "home!", "n1")]
+    pair(built(family, "shuttle_start_each", each), service, "different", "different")
+    pair("shuttle_start_each", single_leaf(family, "shuttle_start_each_service",
+                                           STARTS + sooner + counter(2, "move?", "done!")), "different", "equal")
+
+
+def powered_start(family):
+    """The start-up enables the stations with a supply."""
+    for k in (1, 3):
+        service = single_leaf(family, f"shuttle{k}_start_service", STARTS + counter(k + 2, "move?", "done!"))
+        for drop, ending, weak in (("survives", "", "equal"), ("loses", "_faulty", "different")):
+            name = f"shuttle{k}_start{ending}"
+            built(family, name, lambda m: m.enable(start_up(m), station_of_leaves(m, k, drop)))
+            pair(name, service, "different", weak)
+
+
+# Emergency stop.
+
+STOP = ("emergency stop", [("armed", "stop?", "stopped")])
+MOVES = counter(1, "move?", "done!")
+
+
+def stopped_from(steps):
+    """The steps, and a stop from each of their states but the last one of a phase that has ended."""
+    states = list(dict.fromkeys(state for source, _, target in steps for state in (source, target)))
+    return steps + [(state, "stop?", "stopped") for state in states if state != "over"]
+
+
+def stopped_drive(family):
+    drive = ("drive", MOVES)
+    service = single_leaf(family, "shuttle_stop_service", stopped_from(MOVES))
+    pair(of_leaves(family, "shuttle_stop", Model.disable, drive, STOP), service, "equal", "equal")
+    pair(of_leaves(family, "shuttle_stop_composed", Model.compose, drive, STOP), service, "different", "different")
+
+    lock = ("lock", [("open", "move?", "open"), ("open", "stop?", "shut")])
+    locked = of_leaves(family, "shuttle_stop_lock", lambda m, one, two: m.joint(one, two, ["move"]), drive, lock)
+    pair(locked, service, "different", "different")
+    late = MOVES + [("n0", "stop?", "stopped"), ("n1", "stop?", "stopping"), ("stopping", "done!", "stopped")]
+    pair(locked, single_leaf(family, "shuttle_stop_one_more", late), "equal", "equal")
+
+    button = single_leaf(family, "shuttle_stop_button", STOP[1])
+    decides = [("deciding", TAU, "armed")] + STOP[1]
+    pair(single_leaf(family, "shuttle_stop_button_decides", decides), button, "different", "equal")
+    decided = of_leaves(family, "shuttle_stop_decides", Model.disable, drive, ("emergency stop", decides))
+    pair(decided, service, "different", "different")
+
+    parks = MOVES + [("n0", "park?", "parked"), ("parked", EXIT, "over")]
+    service = single_leaf(family, "shuttle_stop_parks_service", stopped_from(parks))
+    drive = ("drive", parks)
+    pair(of_leaves(family, "shuttle_stop_parks", Model.disable, drive, STOP), service, "equal", "equal")
+    after = of_leaves(family, "shuttle_stop_parks_composed", Model.compose, drive, STOP)
+    pair(after, service, "different", "different")
+
+
+def stopped_parts(model, k, drop, stopped):
+    """Host link, and journal, drive and supply; those named in `stopped` are disabled by a stop of their own."""
+    parts = {"link": model.leaf("host link", [("empty", "move?", "full"), ("full", "log?", "empty")]),
+             "journal": model.leaf("journal", counting_journal(k, drop)), "drive": model.leaf("drive", DRIVE)}
+    stop = model.leaf(*STOP)
+    for name in stopped:
+        parts[name] = model.disable(parts[name], stop)
+    return parts["link"], powered_parts(model, parts["journal"], parts["drive"])
+
+
+def stopped_station(family):
+    def station(k, ending, *stopped, drop="survives", together=("log", "stop")):
+        def make(model):
+            link, inner = stopped_parts(model, k, drop, stopped)
+            return model.hide(model.joint(link, inner, together), ["log"])
+
+        return built(family, f"shuttle{k}_stop{ending}", make)
+
+    for k in (1, 3):
+        service = single_leaf(family, f"shuttle{k}_stop_service", stopped_from(counter(k + 2, "move?", "done!")))
+        pair(station(k, "", "link", "drive"), service, "different", "equal")
+        pair(station(k, "_journal", "link", "journal"), service, "different", "different")
+        pair(station(k, "_faulty", "link", "drive", drop="loses"), service, "different", "different")
+    pair(station(1, "_twice", "link", "drive", together=["log"]), "shuttle1_stop_service", "different", "different")
+    pair(station(1, "_link", "link", together=["log"]), "shuttle1_stop_service", "different", "different")
+    whole = built(family, "shuttle1_stop_whole",
+                  lambda m: m.disable(station_of_leaves(m, 1, "survives"), m.leaf(*STOP)))
+    pair(whole, "shuttle1_stop_service", "different", "equal")
+    pair(whole, "shuttle1_stop", "different", "equal")
+
+    above = station_of_cells(family, 16, "survives")
+    above.disable(len(above.frames) - 1, above.leaf(*STOP))
+    refused("shuttle16_cells_stop", above, "shuttle1_stop_service", len(above.frames) - 1)
+
+
+def started_and_stopped(family):
+    """Start-up, run and stop: which of the two phases the stop disables."""
+    def run(name, make):
+        return built(family, name, lambda m: make(m, m.leaf(*STOP)))
+
+    moves = counter(2, "move?", "done!")
+    late = single_leaf(family, "shuttle_run_stop_late_service", STARTS + stopped_from(moves))
+    service = single_leaf(family, "shuttle_run_stop_service", stopped_from(STARTS + moves))
+    always = run("shuttle_run_stop", lambda m, stop: m.disable(m.enable(start_up(m), running(m)), stop))
+    pair(always, service, "different", "equal")
+    when_run = run("shuttle_run_stop_late", lambda m, stop: m.enable(start_up(m), m.disable(running(m), stop)))
+    pair(when_run, late, "different", "equal")
+    pair(when_run, service, "different", "different")
+
+    each = run("shuttle_run_stop_each",
+               lambda m, stop: m.enable(m.disable(start_up(m), stop), m.disable(running(m), stop)))
+    pair(each, always, "equal", "equal")
+
+    def ending(model, stop):
+        ends = model.leaf("stop that ends", [("armed", "stop?", "stopped"), ("stopped", EXIT, "over")])
+        return model.enable(model.disable(start_up(model), ends), model.disable(running(model), stop))
+
+    pair(run("shuttle_run_stop_ends", ending), service, "different", "different")
+
+    restarted(family, moves)
+
+
+def restarted(family, moves):
+    """After the stop and a reset it runs again."""
+    resets = [("armed", "stop?", "stopped"), ("stopped", "reset?", "reset"), ("reset", EXIT, "over")]
+
+    def make(model):
+        run = running(model)
+        return model.enable(model.disable(run, model.leaf("stop and reset", resets)), run)
+
+    again = [(f"{source} again", word, f"{target} again") for source, word, target in moves]
+    service = stopped_from(moves) + [("stopped", "reset?", "n0 again")] + again
+    pair(built(family, "shuttle_restart", make), single_leaf(family, "shuttle_restart_service", service),
+         "different", "equal")
+
+
+# Laws of enabling and disabling.
+
+def laws_of_phases():
+    family = Family("Laws of enabling and disabling", gates=True)
+
+    def phase(gates, inner=False):
+        """The gates in their order, then exit; with `inner` an i step comes first."""
+        words = [TAU] * inner + [gate + "!" for gate in gates] + [EXIT]
+        name = "i" * inner + gates
+        return name, [(f"{name}{n}", word, f"{name}{n + 1}") for n, word in enumerate(words)]
+
+    a, b, c, d = map(phase, "abcd")
+    stop = ("stopped", [], ["stop"])
+
+    def leaf(phase):
+        return single_leaf(family, f"phase_{phase[0]}", phase[1])
+
+    stops = of_leaves(family, "phase_stop", Model.enable, stop)
+    pair(of_leaves(family, "enable_stop_a", Model.enable, stop, a), stops, "equal", "equal")
+    left = of_leaves(family, "enable_abc", Model.enable, a, b, c)
+    pair(left, from_the_right(family, "enable_abc_right", Model.enable, a, b, c), "equal", "equal")
+    pair(left, leaf(phase("abc")), "different", "equal")
+
+    alone = leaf(a)
+    pair(of_leaves(family, "disable_a_stop", Model.disable, a, stop), alone, "equal", "equal")
+    pair(of_leaves(family, "disable_stop_a", Model.disable, stop, a), alone, "equal", "equal")
+    left = of_leaves(family, "disable_abc", Model.disable, a, b, c)
+    pair(left, from_the_right(family, "disable_abc_right", Model.disable, a, b, c), "equal", "equal")
+    weak_operands(family, phase, leaf)
+    joined_phases(family, a, b, c, d)
+    family.finish()
+
+
+def weak_operands(family, phase, leaf):
+    """b and ib are weakly equal: which places of which operator keep that."""
+    a, b, ia, ib = phase("a"), phase("b"), phase("a", inner=True), phase("b", inner=True)
+    pair(leaf(ib), leaf(b), "different", "equal")
+    enabled = of_leaves(family, "enable_ab", Model.enable, a, b)
+    pair(of_leaves(family, "enable_ia_b", Model.enable, ia, b), enabled, "different", "equal")
+    pair(of_leaves(family, "enable_a_ib", Model.enable, a, ib), enabled, "different", "equal")
+    disabled = of_leaves(family, "disable_ab", Model.disable, a, b)
+    pair(of_leaves(family, "disable_ia_b", Model.disable, ia, b), disabled, "different", "equal")
+    pair(of_leaves(family, "disable_a_ib", Model.disable, a, ib), disabled, "different", "different")
+
+
+def joined_phases(family, a, b, c, d):
+    """Two enablings joined, and two joints one of which enables the other."""
+    def rows(model):
+        one = model.enable(model.leaf(*a), model.leaf(*b))
+        return beside(model, one, model.enable(model.leaf(*c), model.leaf(*d)))
+
+    def columns(model):
+        one = beside(model, model.leaf(*a), model.leaf(*c))
+        return model.enable(one, beside(model, model.leaf(*b), model.leaf(*d)))
+
+    def both(model):
+        one = model.enable(model.leaf(*a), model.leaf(*b))
+        return model.joint(one, one, ["a", "b"])
+
+    pair(built(family, "enable_rows", rows), built(family, "enable_columns", columns), "different", "different")
+    pair(built(family, "enable_both", both), "enable_ab", "different", "equal")
+
+
+# Phases of one state, which have no bits of their own: only the added bits count.
+
+def chains_of_phases():
+    family = Family("Chains of enablings and of disablings", gates=True)
+    chained_enablings(family)
+    chained_disablings(family)
+    family.finish()
+
+
+def both_groupings(family, name, join, leaves, steps):
+    """The chain from the left and from the right, and a single leaf with the steps."""
+    left = of_leaves(family, name, join, *leaves)
+    right = from_the_right(family, f"{name}_right", join, *leaves)
+    service = single_leaf(family, f"{name}_service", steps)
+    for pair_of_two in ((left, service), (right, service), (left, right)):
+        pair(*pair_of_two, "equal", "equal")
+
+
+def chained_enablings(family):
+    phase = ("phase", [("exits", EXIT, "exits")])
+    last = single_leaf(family, "enabled0", phase[1])
+    for count in (3, MAX_BITS):
+        steps = [(f"s{n}", TAU, f"s{n + 1}") for n in range(count)] + [(f"s{count}", EXIT, f"s{count}")]
+        both_groupings(family, f"enabled{count}", Model.enable, [phase] * (count + 1), steps)
+        pair(f"enabled{count}", last, "different", "equal")
+    above = Model(family)
+    row(above, Model.enable, [phase] * (MAX_BITS + 2))
+    refused(f"enabled{MAX_BITS + 1}", above, last, MAX_BITS + 1)
+
+
+def chained_disablings(family):
+    def phases(count):
+        """Each has a gate of its own, but the last one stops."""
+        return [(f"phase {n}", [("on", f"g{n}!", "on")]) for n in range(count)] + [("stopped", [], ["stop"])]
+
+    most = MAX_BITS // 2
+    for count in (3, most):
+        steps = [(f"s{m}", f"g{n}!", f"s{n}") for m in range(count) for n in range(m, count)]
+        both_groupings(family, f"disabled{count}", Model.disable, phases(count), steps)
+    above = Model(family)
+    above.enable(row(above, Model.disable, phases(most)), most)
+    refused(f"disabled{most}_enables", above, f"disabled{most}_service", 2 * most + 1)
+
+
 # Copies of one leaf that step together: one bit each.
 
 def joined_leaves():
@@ -972,7 +1424,7 @@ def write(name, lines):
 
 def main():
     families = (buffers, scheduler, alternating_bit, philosophers, gas_station, transport_handler, connection_of_two,
-                shuttle, joined_leaves)
+                shuttle, joined_leaves, laws_of_phases, chains_of_phases)
     for make in families:
         make()
     title = ["# Channels, lines and states of the models", "",
