@@ -93,16 +93,24 @@ uint64_t seipolku_compare(const uint8_t *left, size_t left_len, const uint8_t *r
 /* The value at an action and four state codes, from a root of an answer: 0 or 1; or 7 (slices unequal, or of a length that no table has)
  * or 10. 10 is due where the action is above 63 or a code is 2^24 or more, whatever bits the models have, and where the walk leaves the table
  * or its order, or comes to a node of a level above 149 (5 + 6 * 24). From a relation's root, where the now code is a state's: whether the
- * step is derived; at a code that no state has, more than the derived steps may hold. Steps have the actions 0 (tau), 62 (exit), and 2c (output)
- * and 2c + 1 (input) for a channel c from 1 to 30; no step has 1 or 63. From the root of a verdict that is SEIPOLKU_VERDICT_EQUAL,
- * for now codes within the models' bits: whether the largest bisimulation, strong or weak, holds the two. Test the verdict first: if it is not
- * equal, its root is 0, which is the constant false, and a look-up from it gives 0 for every pair. */
+ * step is derived; at a code that no state has (see seipolku_model), more than the derived steps may hold. Steps have the actions 0 (tau), 62
+ * (exit), and 2c (output) and 2c + 1 (input) for a channel c from 1 to 30; no step has 1 or 63. From the root of a verdict that is
+ * SEIPOLKU_VERDICT_EQUAL, for now codes within the models' bits: whether the largest bisimulation, strong or weak, holds the two; it
+ * relates codes of states only. Test the verdict first: if it is not equal, its root is 0, which is the constant false, and a look-up from it
+ * gives 0 for every pair. */
 uint64_t seipolku_look_up(const uint8_t *level, size_t level_len, const uint32_t *low, size_t low_len, const uint32_t *high, size_t high_len,
                           uint64_t root, uint64_t action, uint64_t left_now, uint64_t left_next, uint64_t right_now, uint64_t right_next);
 
-/* What the model of a text is. Accepted: the bits of its state codes, the text's lines, and its leaf uses and states, where all combinations
- * of its leaves' states are counted, reachable or not. A model of n bits, at most 24, has the codes 0 to 2^n - 1; state 0 of every leaf is the
- * start, code 0. Refused: the refusal 1 to 6 with its line, and side 0, as seipolku_compare gives it for a left text. */
+/* What the model of a text is. Accepted: the bits of its state codes, the text's lines, and its leaf uses and states, reachable or not. A leaf
+ * of k states has as many bits as k - 1 has; a process over two operands with n1 and n2 states has the bits of both and
+ *   compose, joint (02, 06): n1 * n2 states, a state of each;
+ *   enabling (07): n1 + n2 states and one bit more: 0 with a state of the first, 1 with a state of the second;
+ *   disabling (08): 2 * n1 + n2 states and two bits more: 0 where both are alive, with a state of the first and the start of the second; 1 with
+ *   a state of the second alone; 2 with a state of the first alone.
+ * Restrict, relabel and hide (03, 04, 05) change neither bits nor states.
+ * The added bits are the lowest, then come those of the first, then those of the second; an operand that waits or is dropped has the code 0.
+ * A model of n bits, at most 24, has the codes 0 to 2^n - 1, of which some may be no state's; the start is code 0. Refused: the refusal 1 to 6
+ * with its line, and side 0, as seipolku_compare gives it for a left text. */
 uint64_t seipolku_model(const uint8_t *text, size_t text_len, uint64_t *answer, size_t answer_len);
 
 #ifdef __cplusplus

@@ -6,6 +6,7 @@ use crate::numbering::Numbering;
 use crate::outcome::{misplaced, Misplaced};
 use crate::sorts::{self, Sort};
 use crate::source::{Act, Body, Declared, Definition, Named, Source, Step};
+use crate::syntax::{NESTED, OPERATORS};
 use std::collections::BTreeMap;
 
 type Assembled<T> = Result<T, Misplaced>;
@@ -63,7 +64,13 @@ impl Assembler<'_> {
         }
         let line = match &definition.body {
             Body::Leaf { states, steps } => self.leaf(name, states, steps)?,
-            Body::Compose(operands) => self.compose(name, operands)?,
+            Body::Compose(operands) => self.chained(name, operands, Frame::Compose)?,
+            Body::Enable(operands) => {
+                self.chained(name, operands, |first, second| Frame::Enable { first, second })?
+            }
+            Body::Disable(operands) => {
+                self.chained(name, operands, |first, second| Frame::Disable { first, second })?
+            }
             Body::Restrict(of, list) => Frame::Restrict(self.process(of)?, self.list(name, list)?),
             Body::Hide(of, list) => Frame::Hide(self.process(of)?, self.list(name, list)?),
             Body::Joint(one, other, list) => {
@@ -79,7 +86,7 @@ impl Assembler<'_> {
     fn add(&mut self, name: &Named, frame: Frame) -> Assembled<u8> {
         let number = self.built.model.frames.len();
         if number >= MOST_LINES {
-            let sentence = format!("this definition makes line {number}, but a model has {MOST_LINES} lines, 0 to 63; use fewer.");
+            let sentence = format!("this definition makes line {number}, but a model has {MOST_LINES} lines, 0 to 63; use fewer definitions, or fewer operands: each one after the second makes a line, and so does each change of a relabel after the first.");
             return misplaced(name.line, name.column, sentence);
         }
         self.sorts.push(sorts::one(&frame, &self.sorts));
@@ -114,6 +121,7 @@ impl Assembler<'_> {
         let found = self.built.names.processes.iter().find(|(_, name)| **name == named.name);
         match found {
             Some((line, _)) => Ok(*line as u8),
+            None if OPERATORS.contains(&&named.name[..]) => misplaced(named.line, named.column, NESTED),
             None => misplaced(
                 named.line,
                 named.column,
@@ -152,7 +160,7 @@ impl Assembler<'_> {
     }
 
     /// More than two operands go from left to right, over lines without a name.
-    fn compose(&mut self, name: &Named, operands: &[Named]) -> Assembled<Frame> {
+    fn chained(&mut self, name: &Named, operands: &[Named], frame: fn(u8, u8) -> Frame) -> Assembled<Frame> {
         let numbers: Vec<u8> = operands.iter().map(|o| self.process(o)).collect::<Assembled<_>>()?;
         let [first, inner @ .., last] = &numbers[..] else {
             return misplaced(
@@ -163,9 +171,9 @@ impl Assembler<'_> {
         };
         let mut total = *first;
         for operand in inner {
-            total = self.add(name, Frame::Compose(total, *operand))?;
+            total = self.add(name, frame(total, *operand))?;
         }
-        Ok(Frame::Compose(total, *last))
+        Ok(frame(total, *last))
     }
 
     /// Several changes go from left to right, one after the other.

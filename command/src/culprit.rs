@@ -1,7 +1,8 @@
 //! Which part of a refused line is wrong: only an explanation, the refusal itself is the library's.
 
-use crate::frames::{bytes, EXIT, EXIT_CHANNEL, MOST_CHANNEL, MOST_LINES, MOST_STATES};
+use crate::frames::{bytes, Model, EXIT, EXIT_CHANNEL, MOST_CHANNEL, MOST_LINES, MOST_STATES};
 use crate::outcome::counted;
+use seipolku::layout::{Form, Operator};
 
 /// The first column of the part in the line, its length, and what is wrong with it.
 pub struct Culprit {
@@ -14,16 +15,47 @@ fn culprit(column: usize, length: usize, words: impl Into<String>) -> Option<Cul
     Some(Culprit { column, length, words: words.into() })
 }
 
-/// Explains a refusal 1 to 5 of a line, given with its number and without its end.
-pub fn find(refusal: u64, number: u64, line: &[u8], ended: bool) -> Option<Culprit> {
+/// A refused line without its end.
+pub struct Line<'a> {
+    pub number: u64,
+    pub bytes: &'a [u8],
+    /// Whether a newline follows.
+    pub ended: bool,
+    /// All bytes up to the next line.
+    pub up_to: &'a [u8],
+}
+
+/// Explains a refusal 1 to 6 of a line.
+pub fn find(refusal: u64, line: &Line) -> Option<Culprit> {
+    let Line { number, bytes: line, ended, up_to } = *line;
     match refusal {
         1 => digits(line, ended),
         2 => culprit(0, line.len(), format!("this line has {}", counted(line.len() as u64 / 2, "byte"))),
         3 => line_number(number, line),
         4 => kind(&bytes(line)?),
         5 => range(number, &bytes(line)?),
+        6 => culprit(0, line.len(), size(&Model::decode(up_to)?)?),
         _ => None,
     }
+}
+
+/// How large the last line's process is, with the bits that it gets from its operands and those that it adds.
+pub fn size(model: &Model) -> Option<String> {
+    let layout = model.layout()?;
+    let Form::Over(operator, operands) = &layout.form else { return None };
+    let by = |word: &str| format!(", {} that {word} adds", operator.added());
+    let added = match operator {
+        Operator::Both => String::new(),
+        Operator::Enable => by("enable"),
+        Operator::Disable => by("disable"),
+    };
+    Some(format!(
+        "this process has {} of state ({} and {} of its operands{added}) and {}",
+        counted(u64::from(layout.bits), "bit"),
+        operands[0].bits,
+        operands[1].bits,
+        counted(layout.uses as u64, "leaf use")
+    ))
 }
 
 fn digits(line: &[u8], ended: bool) -> Option<Culprit> {
@@ -60,6 +92,8 @@ fn kind(bytes: &[u8]) -> Option<Culprit> {
         3 | 5 => "restrict and hide have one operand, then channels",
         4 => "relabel has one operand and two channels",
         6 => "joint has two operands, then channels",
+        7 => "enable has two operands",
+        8 => "disable has two operands",
         _ => return culprit(2, 2, format!("there is no kind {kind:02X}")),
     };
     culprit(
@@ -96,7 +130,7 @@ fn roles(bytes: &[u8]) -> Vec<Role> {
     let body = bytes.len().saturating_sub(2);
     let first: &[Role] = match bytes.get(1) {
         Some(1) => &[Role::Count],
-        Some(2 | 6) => &[Role::Operand, Role::Operand],
+        Some(2 | 6 | 7 | 8) => &[Role::Operand, Role::Operand],
         _ => &[Role::Operand],
     };
     let rest: &[Role] = match bytes.get(1) {

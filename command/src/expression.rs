@@ -1,4 +1,5 @@
-//! A model as one expression: CCS for compose `|`, restrict `\ {..}` and relabel `[new/old]`, LOTOS for hide and joint.
+//! A model as one expression: CCS for compose `|`, restrict `\ {..}` and relabel `[new/old]`, LOTOS for hide, joint, enable `>>` and
+//! disable `[>`.
 
 use crate::frames::{Frame, Model};
 use crate::names::Names;
@@ -37,5 +38,7 @@ fn one(line: usize, frame: &Frame, names: &Names, earlier: &[(String, bool)]) ->
         Frame::Joint(i, j, channels) => {
             (format!("{} |[{}]| {}", operand(i), list(channels), operand(j)), true)
         }
+        Frame::Enable { first, second } => (format!("{} >> {}", operand(first), operand(second)), true),
+        Frame::Disable { first, second } => (format!("{} [> {}", operand(first), operand(second)), true),
     }
 }

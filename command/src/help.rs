@@ -60,8 +60,8 @@ Examples:
 const PAIRS: &str = "\
 seipolku pairs LEFT RIGHT [--mode strong|weak] [--reachable] [--most N] [--limit N] [--nodes N] [--by-number]
 
-After 'equal', lists every pair of the largest bisimulation between the two models' states, each state leaf by leaf. All states count,
-reachable or not.
+After 'equal', lists every pair of the largest bisimulation between the two models' states, each state leaf by leaf, as in steps. All
+states count, reachable or not.
 
   --mode strong|weak   which verdict, and the bisimulation that belongs to it. Default: weak.
   --reachable          only states that can be reached from the starts.
@@ -80,7 +80,8 @@ const STEPS: &str = "\
 seipolku steps MODEL [--all] [--line K] [--most N]
 
 Lists the states that can be reached from the start and their steps, which the operators' rules give: '-- in a -->' is an input and
-'-- out a -->' an output on channel a, '-- tau -->' an internal step, '-- exit -->' the termination of a phase.
+'-- out a -->' an output on channel a, '-- tau -->' an internal step, '-- exit -->' the termination of a phase. A state is written leaf
+by leaf; under enable and disable only the leaves of the operands that are alive are named.
 
   --all      every state, reachable or not.
   --line K   the process of line K in place of the last one.
@@ -98,7 +99,7 @@ const SHOW: &str = "\
 seipolku show MODEL [--line K] [--dot [--most N]]
 
 Prints a model line by line in words, and as an expression: P | Q compose, P \\ {a} restrict, P[b/a] relabel (a becomes b),
-hide a in P, P |[a]| Q joint (exit is always on both sides together).
+hide a in P, P |[a]| Q joint (exit is always on both sides together), P >> Q enable, P [> Q disable.
 
   --line K   the model up to line K.
   --dot      a picture for Graphviz: of the reachable part of the model, or of a leaf with all its states if the last line is one.
@@ -119,6 +120,7 @@ const CHECK: &str = "\
 seipolku check MODEL
 
 Says whether the library accepts a model text: then its lines, leaf uses, bits and states, else the refusal in words with the line.
+After the bits stands in brackets how many of them are added, if any: one by each enable, two by each disable, each use counted.
 Exit status: 0 accepted, 2 refused, 3 a file can't be read or the text is older than its source.
 
 Example:
@@ -188,9 +190,13 @@ With --text it goes back: the readable form of a model text with its names. Back
   closed = restrict both on drop, up     no steps on these channels
   other = relabel cell move to log, done to go   one after the other
   quiet = hide both on drop              steps on these channels become tau
-  model = joint one other on put, get    on these channels both take the same step together; they exit only together
+  met = joint one other on put, get      on these channels both take the same step together; they exit only together
+  started = enable startup then run      startup alone; its exit becomes tau and starts run; three or more from the left
+  model = disable started by stop        either may step; a step of stop drops started, an exit of started drops stop; three or more
+                                         from the left
 
-The last definition is the model. Files given together get one numbering of channels.
+Operators are not nested: an operand is the name of a process that is defined above. The last definition is the model. Files given
+together get one numbering of channels.
 
   --into FOLDER   write the files there, not beside the given ones.
   --names TABLE   take channel numbers from this table of names first.

@@ -68,6 +68,8 @@ pub fn operator(frame: &Frame, names: &Names) -> String {
         }
         Frame::Hide(i, list) => format!("hide {}{}", process(i), on(list)),
         Frame::Joint(i, j, list) => format!("joint {} {}{}", process(i), process(j), on(list)),
+        Frame::Enable { first, second } => format!("enable {} then {}", process(first), process(second)),
+        Frame::Disable { first, second } => format!("disable {} by {}", process(first), process(second)),
     }
 }
 

@@ -1,6 +1,6 @@
 //! Refusals in words: number, side, line, the rule, the line itself and what to do.
 
-use crate::culprit::{self, Culprit};
+use crate::culprit::{self, Culprit, Line};
 use crate::files;
 use crate::outcome::{counted, grouped};
 use crate::proved::Lent;
@@ -28,7 +28,7 @@ pub fn rule(refusal: &Refusal) -> String {
         1 => "a text is made of capital hexadecimal digits, two for a byte; it is not empty, and every line ends with a newline",
         2 => "a line has 2 to 255 bytes",
         3 => "byte 0 of a line is the line's number, counted from 0, and a text has at most 64 lines",
-        4 => "byte 1 of a line is its kind, 01 to 06, and each kind has its own length",
+        4 => "byte 1 of a line is its kind, 01 to 08, and each kind has its own length",
         5 => "a state count, state, action, channel or operand is out of range",
         6 => {
             return format!("a line's process has at most {MAX_BITS} bits of state and {MOST_USES} uses of leaves")
@@ -44,7 +44,7 @@ fn what_to_do(refusal: &Refusal) -> &'static str {
     match refusal.fault.number() {
         1 | 2 | 4 | 5 => "correct the line, or write the model in the readable form and run 'seipolku build'",
         3 => "number the lines from 00 upward and use at most 64, or write the model in the readable form and run 'seipolku build'",
-        6 => "use fewer or smaller leaves in this line; n states take as many bits as n - 1 has",
+        6 => "use fewer or smaller leaves in this line; n states take as many bits as n - 1 has, enable adds one bit and disable two",
         7 => "give --nodes a number from 2 to 1,048,576",
         8 => "give a larger table with --nodes N, at most 1,048,576, or make the models smaller, with fewer states or fewer leaves",
         _ => "report this with the models",
@@ -205,11 +205,14 @@ const MOST_SHOWN: usize = 100;
 
 /// The refused line and the part of it that is wrong; nothing for an empty text.
 fn offending<'a>(refusal: &Refusal, text: &'a [u8]) -> Option<(&'a [u8], Option<Culprit>)> {
-    let line = usize::try_from(refusal.line).ok().and_then(|n| text.split(|b| *b == b'\n').nth(n));
-    let line = line.filter(|_| !text.is_empty())?;
-    let newlines = text.iter().filter(|b| **b == b'\n').count() as u64;
-    let found = culprit::find(refusal.fault.number(), refusal.line, line, refusal.line < newlines);
-    Some((line, found))
+    let index = usize::try_from(refusal.line).ok().filter(|_| !text.is_empty())?;
+    let ends: Vec<usize> = (0..text.len()).filter(|at| text[*at] == b'\n').collect();
+    let start = index.checked_sub(1).map_or(Some(0), |before| Some(ends.get(before)? + 1))?;
+    let end = ends.get(index).copied();
+    let bytes = &text[start..end.unwrap_or(text.len())];
+    let up_to = &text[..end.map_or(text.len(), |end| end + 1)];
+    let line = Line { number: refusal.line, bytes, ended: end.is_some(), up_to };
+    Some((bytes, culprit::find(refusal.fault.number(), &line)))
 }
 
 /// The offending line with a mark below the part that is wrong.

@@ -47,6 +47,8 @@ pub enum Body {
     Relabel(Named, Vec<(Named, Named)>),
     Hide(Named, Vec<Named>),
     Joint(Named, Named, Vec<Named>),
+    Enable(Vec<Named>),
+    Disable(Vec<Named>),
 }
 
 #[derive(Debug)]

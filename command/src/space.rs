@@ -1,56 +1,53 @@
-//! The states of a model: which bits of a code hold which leaf's state.
+//! The states of a model: their codes, and how they are written.
 
 use crate::frames::Model;
 use crate::names::Names;
 use crate::words::spelled;
-use seipolku::frames::LeafUse;
+use seipolku::{Layout, LeafUse};
 
 pub struct Space {
+    layout: Layout,
+    /// The leaf uses, lowest bits first.
     pub parts: Vec<LeafUse>,
 }
 
 impl Space {
+    /// The states of the last line's process, of lines that the library accepts.
     pub fn of(model: &Model) -> Space {
-        Space { parts: model.leaf_uses() }
+        let layout = model.layout().unwrap_or_default();
+        Space { parts: layout.leaves(), layout }
     }
 
+    /// The bits of a code, with those that are added.
     pub fn bits(&self) -> u32 {
-        self.parts.iter().map(|p| p.width).sum()
+        self.layout.bits
     }
 
-    /// All combinations of leaf states, reachable or not.
+    /// The bits that enablings and disablings add.
+    pub fn added(&self) -> u32 {
+        self.layout.added()
+    }
+
+    /// How many states there are, reachable or not.
     pub fn states(&self) -> u64 {
-        self.parts.iter().map(|p| p.states).product()
-    }
-
-    /// A leaf use's state in a code.
-    pub fn state(&self, part: usize, code: u64) -> u64 {
-        self.parts.get(part).map_or(0, |p| p.state(code))
-    }
-
-    /// All codes that take each leaf use's state from its list, ascending where the lists ascend.
-    pub fn codes(&self, choices: &[Vec<u64>]) -> Vec<u64> {
-        let mut codes = vec![0];
-        for (part, states) in self.parts.iter().zip(choices).rev() {
-            codes = codes.iter().flat_map(|c| states.iter().map(move |s| c | (s << part.shift))).collect();
-        }
-        codes
+        self.layout.states
     }
 
     /// Every state's code, ascending.
     pub fn all_codes(&self) -> Vec<u64> {
-        let every: Vec<Vec<u64>> = self.parts.iter().map(|p| (0..p.states).collect()).collect();
-        self.codes(&every)
+        self.layout.codes()
     }
 
-    /// A code leaf by leaf: each leaf's name with its state's name. Uses of one leaf are told apart by a number.
+    /// A state leaf by leaf: each leaf's name with its state's name. Uses of one leaf are told apart by a number. Of an enabling or a
+    /// disabling the leaves of the operands that are alive are named, and no others; so the leaves that are named tell which these are.
     pub fn named(&self, code: u64, names: &Names) -> Vec<String> {
+        let alive = self.layout.alive(code).unwrap_or_default();
         let mut spelled_parts = Vec::new();
-        for (k, part) in self.parts.iter().enumerate() {
+        for (k, part) in self.parts.iter().enumerate().filter(|(k, _)| alive.get(*k) == Some(&true)) {
             let uses = self.parts.iter().filter(|p| p.line == part.line).count();
             let earlier = self.parts[..k].iter().filter(|p| p.line == part.line).count();
             let mark = if uses > 1 { format!("#{}", earlier + 1) } else { String::new() };
-            let state = names.state(part.line, self.state(k, code) as usize);
+            let state = names.state(part.line, part.state(code) as usize);
             spelled_parts.push(format!("{}{mark}={}", spelled(&names.process(part.line)), spelled(&state)));
         }
         spelled_parts

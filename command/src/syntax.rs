@@ -22,10 +22,26 @@ const EXIT_LISTED: &str =
     "exit is the termination event and no channel: joint takes it on both sides together, and no list or relabelling names it; leave it out.";
 const EXIT_QUOTED: &str = "exit is the termination event and no gate; write it without quotes.";
 
+/// Operators of LOTOS, and `|` of CCS, and how they are written here. One that starts as another does comes before it.
+const WRITTEN: [(&str, &str); 6] = [
+    (">>", "enable FIRST then SECOND"),
+    ("[>", "disable FIRST by SECOND"),
+    ("|||", "joint FIRST SECOND"),
+    ("|[", "joint FIRST SECOND on CHANNELS"),
+    ("||", "joint FIRST SECOND on CHANNELS"),
+    ("|", "compose FIRST SECOND"),
+];
+
+pub const OPERATORS: [&str; 7] = ["compose", "restrict", "relabel", "hide", "joint", "enable", "disable"];
+
+/// What is said where an operator stands in the place of an operand.
+pub const NESTED: &str = "operators are not nested: an operand is the name of a process; define the inner process in a line of its own \
+                      above, and name it here.";
+
 pub fn parse(text: &str, open: Open) -> Parsed<Source> {
     let mut source = Source::default();
     for (index, line) in text.lines().enumerate() {
-        let words = tokens(index + 1, line)?;
+        let words = tokens(index + 1, line).map_err(|wrong| of_expression(wrong, line))?;
         if !words.is_empty() {
             parse_line(&mut source, &mut Line { number: index + 1, words, next: 0 }, open)?;
         }
@@ -37,10 +53,39 @@ pub fn parse(text: &str, open: Open) -> Parsed<Source> {
     Ok(source)
 }
 
+/// What is said where an operator's sign or a bracket stands in a definition.
+fn of_expression(wrong: Misplaced, line: &str) -> Misplaced {
+    let split = line.char_indices().nth(wrong.column - 1).map_or(line.len(), |(at, _)| at);
+    let (before, rest) = line.split_at(split);
+    if !tokens(wrong.line, before).is_ok_and(|words| defining(&words)) {
+        return wrong;
+    }
+    if rest.starts_with('(') {
+        return Misplaced { sentence: NESTED.to_string(), ..wrong };
+    }
+    match WRITTEN.iter().find(|(sign, _)| rest.starts_with(sign)) {
+        Some((sign, words)) => {
+            let sentence = format!("'{sign}' has no meaning here; write 'NAME = {words}' for it.");
+            Misplaced { sentence, ..wrong }
+        }
+        None => wrong,
+    }
+}
+
+/// Whether a line that starts so defines a process, or may be meant to: `p >> q` without a name of its own.
+fn defining(words: &[Placed]) -> bool {
+    match words {
+        [word] => !["channels", "gates", "leaf", "states"].iter().any(|first| word.is(first)),
+        [_, second, ..] => second.is("="),
+        [] => false,
+    }
+}
+
 fn parse_line(source: &mut Source, line: &mut Line, open: Open) -> Parsed<()> {
     let second = |mark: &str| line.words.get(1).is_some_and(|w| w.is(mark));
     if second("=") {
-        source.definitions.push(definition(line)?);
+        let definition = definition(line).map_err(|wrong| nested(wrong, line, source))?;
+        source.definitions.push(definition);
     } else if second("--") || second("-->") {
         step(source, line)?;
     } else if line.skip("channels") {
@@ -180,12 +225,54 @@ fn definition(line: &mut Line) -> Parsed<Definition> {
         Body::Joint(line.process()?, line.process()?, line.channels()?)
     } else if line.skip("relabel") {
         Body::Relabel(line.process()?, relabelling(line)?)
+    } else if line.skip("enable") {
+        Body::Enable(sequence(line, "then", "enable FIRST then SECOND")?)
+    } else if line.skip("disable") {
+        Body::Disable(sequence(line, "by", "disable FIRST by SECOND")?)
     } else {
         return line.wrong(
-            "the operators are compose, restrict, relabel, hide and joint; write one of these after '='.",
+            "the operators are compose, restrict, relabel, hide, joint, enable and disable; write one of these after '='.",
         );
     };
     Ok(Definition { name, body })
+}
+
+/// What is said of a definition with something wrong behind an operator that stands in the place of a name.
+fn nested(wrong: Misplaced, line: &Line, source: &Source) -> Misplaced {
+    let known = |word: &str| {
+        source.definitions.iter().any(|d| d.name.name == word)
+            || source.channels.iter().any(|c| c.channel.name == word)
+    };
+    let mut behind = line.words.iter().skip(3).take_while(|w| w.column < wrong.column);
+    match behind.find(|w| OPERATORS.iter().any(|o| w.is(o) && !known(o))) {
+        Some(word) => Misplaced::new(wrong.line, word.column, NESTED),
+        None => wrong,
+    }
+}
+
+/// Two processes or more with a word between them.
+fn sequence(line: &mut Line, word: &str, form: &str) -> Parsed<Vec<Named>> {
+    let process = format!("the name of a process, as in '{form}',");
+    let mut operands = vec![line.name(&process)?];
+    while operands.len() < 2 || !line.at_end() {
+        if !line.skip(word) {
+            return line.wrong(&between(line, operands.len(), word, form));
+        }
+        operands.push(line.name(&process)?);
+    }
+    Ok(operands)
+}
+
+/// What is said where the word between two processes is missing, behind so many of them.
+fn between(line: &Line, operands: usize, word: &str, form: &str) -> String {
+    if operands < 2 {
+        return format!("'{word}' is due here, as in '{form}'; write it.");
+    }
+    let complete = match line.peek().is_some_and(|w| w.is("on")) {
+        true => "enable and disable have no list of channels",
+        false => "the line is complete before this word",
+    };
+    format!("{complete}; remove the rest, or write '{word}' and one more process.")
 }
 
 fn compose(line: &mut Line) -> Parsed<Body> {

@@ -15,6 +15,7 @@ const FILES: &[&str] = &[
     "examples/journal_faulty.aut",
     "examples/service.aut",
     "examples/parking.model",
+    "examples/stop.model",
 ];
 
 const RUNS: &[&[&str]] = &[
@@ -103,7 +104,8 @@ fn changed_files() {
             folder.write(&format!("file.{ending}"), pick(&mut random, &format!(".{ending}")));
         }
         if round % 2 == 0 {
-            folder.write("file.hex", model(&mut random, 6).text);
+            let text = model(&mut random, 6).text.into_bytes();
+            folder.write("file.hex", if round % 4 == 0 { hostile(&mut random, &text) } else { text });
         }
         if round % 3 == 0 {
             folder.write("file.names", hostile(&mut random, RECORD.as_bytes()));

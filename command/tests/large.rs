@@ -277,6 +277,49 @@ fn parts_are_listed() {
     );
 }
 
+/// Phases one after the other, in as many bits as fit: the states are few, and every listing has them at once.
+#[test]
+fn many_phases() {
+    let folder = Folder::new();
+    let phase = "000103000201013E02";
+    folder.write("m.hex", chain(phase, 8, "07", ""));
+    let size = "8 lines, 1 leaf line, 8 leaf uses, 23 bits (7 added), 24 states";
+    assert_eq!(quick(&folder, &["check", "m.hex"]).out, format!("m.hex: accepted: {size}.\n"));
+    let start = "p0#1=0\n  -- out c1 --> p0#1=1\np0#1=1\n  -- tau --> p0#2=0\n";
+    let steps = quick(&folder, &["steps", "m.hex"]).out;
+    assert!(steps.starts_with(&format!("17 reachable states, 16 steps\n{start}")), "{steps}");
+    assert!(steps.ends_with("p0#8=1\n  -- exit --> p0#8=2\np0#8=2\n"), "{steps}");
+    assert!(quick(&folder, &["steps", "m.hex", "--all"]).out.starts_with("24 states, 16 steps\n"));
+    // Eight states on the way, each like no other, and four ends.
+    folder.write("four.hex", chain(phase, 4, "07", ""));
+    let pairs = quick(&folder, &["pairs", "four.hex", "four.hex", "--mode", "strong"]).out;
+    assert!(pairs.starts_with("strong equal, 24 pairs in "), "{pairs}");
+    let aut = quick(&folder, &["to-aut", "m.hex"]).out;
+    assert!(aut.starts_with("des (0, 16, 17)\n") && aut.ends_with("\n(15, exit, 16)\n"), "{aut}");
+    folder.write("more.hex", chain(phase, 9, "07", ""));
+    let ran = folder.run(&["check", "more.hex"]);
+    let words =
+        "this process has 26 bits of state (23 and 2 of its operands, 1 that enable adds) and 9 leaf uses\n";
+    assert!(ran.status == 2 && ran.out.contains(words), "{}", ran.out);
+}
+
+/// A part that is broken off by one after the other: with each the states are doubled.
+#[test]
+fn many_stops() {
+    let folder = Folder::new();
+    folder.write("m.hex", chain("000102000201", 8, "08", ""));
+    let size = "8 lines, 1 leaf line, 8 leaf uses, 22 bits (14 added), 510 states";
+    assert_eq!(quick(&folder, &["check", "m.hex"]).out, format!("m.hex: accepted: {size}.\n"));
+    assert!(quick(&folder, &["steps", "m.hex", "--all"]).out.starts_with("510 states, "));
+    let steps = quick(&folder, &["steps", "m.hex"]).out;
+    assert!(steps.contains("\np0#8=1\n"), "{steps}");
+    folder.write("n.hex", "000102000201\n");
+    let verdict = quick(&folder, &["compare", "m.hex", "n.hex", "--mode", "weak"]);
+    assert_eq!(verdict.status, 1, "{}", verdict.out);
+    folder.write("more.hex", chain("000102000201", 9, "08", ""));
+    assert_eq!(folder.run(&["check", "more.hex"]).status, 2);
+}
+
 #[test]
 fn one_bit_more() {
     let folder = folder();

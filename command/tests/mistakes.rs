@@ -90,7 +90,16 @@ fn sizes() {
         "line 31, column 10: 'c30' is one channel too many: there are at most 30.",
     );
     let leaves: String = (0..65).map(|n| format!("leaf a{n}\n  states s\n")).collect();
-    says(&leaves, "line 129, column 6: this definition makes line 64");
+    let lines = "this definition makes line 64, but a model has 64 lines, 0 to 63; use fewer definitions, or fewer operands: each one \
+                 after the second makes a line, and so does each change of a relabel after the first.";
+    says(&leaves, &format!("line 129, column 6: {lines}"));
+    for (operator, word) in [("compose", ""), ("enable", "then"), ("disable", "by")] {
+        let operands = vec!["a"; 70].join(&format!(" {word} "));
+        says(
+            &format!("leaf a\n  states s\nb = {operator} {operands}\n"),
+            &format!("line 3, column 1: {lines}"),
+        );
+    }
     let states: String = (0..64).map(|n| format!("s{n} ")).collect();
     let large = format!("leaf a\n  states {states}\nb = compose a a\nc = compose b b a\n");
     says(&large, "line 4, column 1: refusal 6");
@@ -273,6 +282,108 @@ fn exit_in_name_tables() {
         let ran = runs.map(|words| folder.run(words));
         assert!(ran.iter().all(|r| r.status == 3 && r.err.contains(&expected)), "{line}: {}", ran[0].err);
     }
+}
+
+/// The words of enable and disable, and the operators that LOTOS has for them.
+#[test]
+fn enable_and_disable() {
+    let says = |line: &str, expected: &str| {
+        build_says(&format!("leaf a\n  states s\n{line}\n"), &format!("line 3, column {expected}"))
+    };
+    let (then, by) = ("as in 'enable FIRST then SECOND'", "as in 'disable FIRST by SECOND'");
+    let name = |form: &str| format!("the name of a process, {form}, is due here; write it.");
+    says("b = enable", &format!("11: {}", name(then)));
+    says("b = enable a", &format!("13: 'then' is due here, {then}; write it."));
+    says("b = enable a a", &format!("14: 'then' is due here, {then}; write it."));
+    says("b = enable a, a", &format!("13: 'then' is due here, {then}; write it."));
+    says("b = enable a by a", &format!("14: 'then' is due here, {then}; write it."));
+    says("b = enable a then", &format!("18: {}", name(then)));
+    says("b = enable a \"then\" a", &format!("14: 'then' is due here, {then}; write it."));
+    says("b = enable a then a then", &format!("25: {}", name(then)));
+    let (one_more, list) = ("remove the rest, or write", "enable and disable have no list of channels");
+    let complete = "the line is complete before this word";
+    says("b = enable a then a by a", &format!("21: {complete}; {one_more} 'then' and one more process."));
+    says("b = enable a then a a", &format!("21: {complete}; {one_more} 'then' and one more process."));
+    says("b = enable a then a on x", &format!("21: {list}; {one_more} 'then' and one more process."));
+    says("b = enable a then a then a on", &format!("28: {list}; {one_more} 'then' and one more process."));
+    says("b = enable a on x", &format!("14: 'then' is due here, {then}; write it."));
+    says("b = enable a then c", "19: there is no process 'c' above this line; define it before");
+    says("b = enable b then a", "12: there is no process 'b' above this line; define it before");
+    says("b = disable = a", &format!("13: {}", name(by)));
+    says("b = disable a", &format!("14: 'by' is due here, {by}; write it."));
+    says("b = disable a then a", &format!("15: 'by' is due here, {by}; write it."));
+    says("b = disable a by", &format!("17: {}", name(by)));
+    says("b = disable a by a on x", &format!("20: {list}; {one_more} 'by' and one more process."));
+    says("b = disable a by a then a", &format!("20: {complete}; {one_more} 'by' and one more process."));
+    says("enable a then a", "1: a line is 'channels ..'");
+    says(
+        "b = a then a",
+        "5: the operators are compose, restrict, relabel, hide, joint, enable and disable; write one of these after '='.",
+    );
+}
+
+/// Signs of operators in a definition, and elsewhere.
+#[test]
+fn signs_of_operators() {
+    let says = |line: &str, expected: &str| {
+        build_says(&format!("leaf a\n  states s\n{line}\n"), &format!("line 3, column {expected}"))
+    };
+    for (sign, words) in [
+        (">>", "enable FIRST then SECOND"),
+        ("[>", "disable FIRST by SECOND"),
+        ("|||", "joint FIRST SECOND"),
+        ("|[", "joint FIRST SECOND on CHANNELS"),
+        ("||", "joint FIRST SECOND on CHANNELS"),
+        ("|", "compose FIRST SECOND"),
+    ] {
+        let written = format!("'{sign}' has no meaning here; write 'NAME = {words}' for it.");
+        says(&format!("b = a {sign} a"), &format!("7: {written}"));
+        says(&format!("a {sign} a"), &format!("3: {written}"));
+        let first = sign.chars().next().unwrap_or_default();
+        let name = format!("'{first}' has no meaning here; put a name with such a character into quotes.");
+        for line in ["s -- ", "s -- tau --> ", "channels x ", "leaf ", "states "] {
+            says(&format!("{line}{sign}"), &format!("{}: {name}", line.len() + 1));
+        }
+    }
+    says("b = a > a", "7: '>' has no meaning here; put a name");
+    says("b = a [] a", "7: '[' has no meaning here; put a name");
+    says("b = \"é\" >> a", "9: '>>' has no meaning here; write");
+    says(">> a", "1: '>' has no meaning here; put a name");
+}
+
+/// An operator in the place of an operand.
+#[test]
+fn nested_operators() {
+    let nested = "operators are not nested: an operand is the name of a process; define the inner process in a line of its own above, \
+                  and name it here.";
+    for (line, column) in [
+        ("b = enable a then disable a by a", 19),
+        ("b = enable a then (disable a by a)", 19),
+        ("b = enable disable a by a then a", 12),
+        ("b = enable (a) then a", 12),
+        ("b = disable a by enable a then a", 18),
+        ("b = disable a by enable", 18),
+        ("b = disable a by a by joint a a on x", 23),
+        ("b = compose a joint a a", 15),
+        ("b = compose hide a on x, a", 13),
+        ("b = restrict compose a a on x", 14),
+        ("b = relabel hide a on x x to y", 13),
+        ("b = joint a enable a then a", 13),
+        ("b = (a >> a)", 5),
+    ] {
+        build_says(
+            &format!("channels x, y\nleaf a\n  states s\n{line}\n"),
+            &format!("line 4, column {column}: {nested}"),
+        );
+    }
+    // a process or a channel that has an operator's name
+    let says = |line: &str, expected: &str| {
+        let above = "channels hide\nleaf a\n  states s\ndisable = compose a a\n";
+        build_says(&format!("{above}{line}\n"), &format!("line 5, column {expected}"));
+    };
+    says("b = enable a then disable a", "27: the line is complete before this word");
+    says("b = restrict a on hide =", "24: a channel after 'on'");
+    says("s -- ( --> t", "6: '(' has no meaning here; put a name");
 }
 
 /// A gate of the table on which the model has inputs, in a leaf or by relabelling.

@@ -9,7 +9,7 @@ use std::collections::BTreeSet;
 const NAMES: &[&str] = &[
     "a", "tau", "in", "out", "on", "to", "leaf", "states", "channels", "gates", "from", "compose", "=", "--",
     "-->", ",", "a b", "\"", "\\", "a\"b\\", "#", "0", "1", "p1", "p1_", "c2", "i", "τ", "é.x'", "x!", "?y",
-    "restrict", " z ", "exit", "exit!",
+    "restrict", " z ", "exit", "exit!", "enable", "then", "disable", "by", ">>", "[>",
 ];
 
 fn spelled(name: &str) -> String {

@@ -3,7 +3,7 @@
 
 mod common;
 
-use common::{run, Folder, Ran};
+use common::{run, top, Folder, Ran};
 use std::fs;
 use std::path::Path;
 
@@ -101,6 +101,34 @@ fn outputs() {
     }
 }
 
+/// The examples with enable and disable, each run by the name of its stored file.
+const SEQUENCING: &[(&str, &[&str])] = &[
+    ("build_sequencing", &["build", "startup.model", "stop.model", "stop_late.model", "stop_service.model"]),
+    ("show_enable", &["show", "startup.hex"]),
+    ("steps_enable", &["steps", "startup.hex"]),
+    ("show_disable", &["show", "stop.hex"]),
+    ("show_dot_disable", &["show", "stop.hex", "--dot"]),
+    ("steps_disable", &["steps", "stop.hex"]),
+    ("steps_disable_all", &["steps", "stop.hex", "--all"]),
+    ("check_disable", &["check", "stop.hex"]),
+    ("to_aut_disable", &["to-aut", "stop.hex"]),
+    ("build_text_disable", &["build", "--text", "stop.hex"]),
+    ("compare_disable", &["compare", "stop.hex", "stop_service.hex"]),
+    ("compare_stop_late", &["compare", "stop_late.hex", "stop_service.hex"]),
+    ("pairs_disable", &["pairs", "stop.hex", "stop_service.hex"]),
+];
+
+#[test]
+fn outputs_of_enable_and_disable() {
+    let folder = Folder::new();
+    for name in ["startup", "stop", "stop_late", "stop_service"].map(|name| format!("{name}.model")) {
+        fs::copy(top().join("examples").join(&name), folder.0.join(&name)).expect("a copy");
+    }
+    for (name, words) in SEQUENCING {
+        compare(name, &folder.run(words));
+    }
+}
+
 #[test]
 fn helps() {
     for command in ["compare", "pairs", "steps", "show", "check", "from-aut", "to-aut", "build"] {
@@ -129,16 +157,21 @@ fn refused_texts() {
         ("refused_1_end", "000102000201\n01030001"),
         ("refused_2", "000102000201\n\n"),
         ("refused_3", "000102000201\n02030001\n"),
-        ("refused_4_kind", "000102000201\n01070001\n"),
+        ("refused_4_kind", "000102000201\n010A0001\n"),
         ("refused_4_length", "000102000201\n010200\n"),
+        ("refused_4_enable", "000102000201\n0107000000\n"),
+        ("refused_4_disable", "000102000201\n010800\n"),
         ("refused_5_state", "000102000202\n"),
         ("refused_5_action", "000102000101\n"),
         ("refused_5_channel", "000102000201\n01030020\n"),
         ("refused_5_operand", "000102000201\n01030101\n"),
+        ("refused_5_second", "000102000201\n01080001\n"),
         ("refused_5_action_63", "000102003E01003F01\n"),
         ("refused_5_channel_31", "000102003E01\n010600001E1F\n"),
         ("refused_5_relabelling_31", "000102003E01\n010400011F\n"),
         ("refused_6", "000140\n01020000\n02020101\n030102\n04020203\n"),
+        ("refused_6_enable", "000140\n01020000\n02070101\n"),
+        ("refused_6_disable", "000140\n01020000\n020120\n03020002\n04080103\n05XX\n"),
         ("refused_aut", "des (0, 0, 1)\n"),
     ];
     for (name, text) in texts {
@@ -146,10 +179,11 @@ fn refused_texts() {
     }
 }
 
-/// A text that has all the bits that a model may have.
+/// Texts that have all the bits that a model may have, also with added ones.
 #[test]
-fn largest_text() {
+fn largest_texts() {
     judged("accepted_24_bits", "000140\n01020000\n02020101\n", 0);
+    judged("accepted_24_bits_added", "000140\n010120\n02020001\n03080202\n", 0);
 }
 
 /// A text alone and on each side.

@@ -85,7 +85,8 @@ impl<'t> Verdict<'t> {
     }
 
     /// Whether the largest bisimulation holds the pair of states; nothing where the models are not equal, since the table then shows no
-    /// bisimulation of this kind. Codes are those of the models, 0 to 2^bits - 1; one of `CODES` or more is refused with 10.
+    /// bisimulation of this kind. Codes are those of the models, 0 to 2^bits - 1, of which those that are no state's are in no pair; one of
+    /// `CODES` or more is refused with 10.
     pub fn related(&self, left: u64, right: u64) -> Result<Option<bool>, Refusal> {
         self.largest().map(|root| root.look_up(0, [left, 0, right, 0])).transpose()
     }
@@ -142,9 +143,9 @@ impl<'t> Comparison<'t> {
         self.right.look_up(action, [0, 0, now, next])
     }
 
-    /// All steps of the left model, which is the one given, from the state `now`, in no order. A code that is no state's, since a leaf
-    /// has fewer states than its bits could tell apart, may have more than the operators' rules derive. Refused with 10 where `now` has
-    /// more bits than the model.
+    /// All steps of the left model, which is the one given, from the state `now`, in no order. A code that is no state's
+    /// ([`Layout::is_state`](crate::Layout::is_state)) may have more than the operators' rules derive. Refused with 10 where `now` has more
+    /// bits than the model.
     ///
     /// ```
     /// # use seipolku::{model, Table};

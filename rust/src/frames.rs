@@ -1,5 +1,7 @@
 //! The lines of a model text as values: decoding texts that the library accepted, and encoding.
 
+use crate::layout::Layout;
+
 /// A step of a leaf.
 #[derive(Clone, Copy, Debug, PartialEq, Eq)]
 pub struct Triple {
@@ -12,38 +14,35 @@ pub struct Triple {
 /// A line. Operands are numbers of earlier lines.
 #[derive(Clone, Debug, PartialEq, Eq)]
 pub enum Frame {
-    Leaf { states: u8, triples: Vec<Triple> },
+    Leaf {
+        states: u8,
+        triples: Vec<Triple>,
+    },
     Compose(u8, u8),
     Restrict(u8, Vec<u8>),
-    Relabel { of: u8, old: u8, new: u8 },
+    Relabel {
+        of: u8,
+        old: u8,
+        new: u8,
+    },
     Hide(u8, Vec<u8>),
     Joint(u8, u8, Vec<u8>),
+    /// LOTOS's `first >> second`.
+    Enable {
+        first: u8,
+        second: u8,
+    },
+    /// LOTOS's `first [> second`.
+    Disable {
+        first: u8,
+        second: u8,
+    },
 }
 
 /// The lines of a text; the last one's process is the model.
 #[derive(Clone, Debug, Default, PartialEq, Eq)]
 pub struct Lines {
     pub frames: Vec<Frame>,
-}
-
-/// One use of a leaf, and which bits of a state's code hold its state.
-#[derive(Clone, Copy, Debug, PartialEq, Eq)]
-pub struct LeafUse {
-    /// The line of the leaf.
-    pub line: usize,
-    pub states: u64,
-    /// Its lowest bit.
-    pub shift: u32,
-    /// How many bits it has; none for a leaf of one state.
-    pub width: u32,
-}
-
-impl LeafUse {
-    /// The leaf's state in a code.
-    pub fn state(&self, code: u64) -> u64 {
-        let ones = 1u64.checked_shl(self.width).unwrap_or(0).wrapping_sub(1);
-        code.checked_shr(self.shift).unwrap_or(0) & ones
-    }
 }
 
 pub const MOST_LINES: usize = 64;
@@ -81,34 +80,9 @@ impl Lines {
         Lines { frames: self.frames.iter().take(line.saturating_add(1)).cloned().collect() }
     }
 
-    /// The leaves that the last line uses, lowest bits first; a leaf stands as often as it is used.
-    pub fn leaf_uses(&self) -> Vec<LeafUse> {
-        let mut shift = 0;
-        let mut uses = Vec::new();
-        for line in self.used_leaves() {
-            let Some(Frame::Leaf { states, .. }) = self.frames.get(line) else { continue };
-            let width = u8::BITS - states.saturating_sub(1).leading_zeros();
-            uses.push(LeafUse { line, states: u64::from(*states), shift, width });
-            shift += width;
-        }
-        uses
-    }
-
-    /// Their lines.
-    fn used_leaves(&self) -> Vec<usize> {
-        let mut uses: Vec<Vec<usize>> = Vec::new();
-        for (line, frame) in self.frames.iter().enumerate() {
-            let of = |i: &u8| uses.get(*i as usize).cloned().unwrap_or_default();
-            let mut all = match frame {
-                Frame::Leaf { .. } => vec![line],
-                Frame::Compose(i, j) | Frame::Joint(i, j, _) => [of(i), of(j)].concat(),
-                Frame::Restrict(i, _) | Frame::Hide(i, _) | Frame::Relabel { of: i, .. } => of(i),
-            };
-            // Accepted lines have no more; this only bounds the work on others.
-            all.truncate(MOST_USES);
-            uses.push(all);
-        }
-        uses.pop().unwrap_or_default()
+    /// How the state codes of the last line's process are laid out; nothing for some lines that are not accepted.
+    pub fn layout(&self) -> Option<Layout> {
+        Layout::of(&self.frames)
     }
 
     /// Every channel that a line names, in ascending order; termination is on none of these.
@@ -145,6 +119,8 @@ fn frame(bytes: &[u8]) -> Option<Frame> {
         [_, 4, of, old, new] => Frame::Relabel { of: *of, old: *old, new: *new },
         [_, 5, i, channels @ ..] => Frame::Hide(*i, channels.to_vec()),
         [_, 6, i, j, channels @ ..] => Frame::Joint(*i, *j, channels.to_vec()),
+        [_, 7, first, second] => Frame::Enable { first: *first, second: *second },
+        [_, 8, first, second] => Frame::Disable { first: *first, second: *second },
         _ => return None,
     })
 }
@@ -161,6 +137,8 @@ fn body(frame: &Frame) -> Vec<u8> {
         Frame::Relabel { of, old, new } => vec![4, *of, *old, *new],
         Frame::Hide(i, channels) => [&[5, *i], &channels[..]].concat(),
         Frame::Joint(i, j, channels) => [&[6, *i, *j], &channels[..]].concat(),
+        Frame::Enable { first, second } => vec![7, *first, *second],
+        Frame::Disable { first, second } => vec![8, *first, *second],
     }
 }
 
@@ -168,7 +146,7 @@ fn body(frame: &Frame) -> Vec<u8> {
 fn named_channels(frame: &Frame) -> Vec<u8> {
     match frame {
         Frame::Leaf { triples, .. } => triples.iter().map(|t| t.action / 2).collect(),
-        Frame::Compose(..) => Vec::new(),
+        Frame::Compose(..) | Frame::Enable { .. } | Frame::Disable { .. } => Vec::new(),
         Frame::Relabel { old, new, .. } => vec![*old, *new],
         Frame::Restrict(_, list) | Frame::Hide(_, list) | Frame::Joint(_, _, list) => list.clone(),
     }

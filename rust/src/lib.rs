@@ -1,8 +1,8 @@
 //! A safe interface to the proved comparison of models: strong and weak bisimilarity of two model texts, both from one call.
 //!
 //! All answers come from the proved library; this crate lends it memory and puts names to its numbers. It derives three things of its own,
-//! which are tested and not proved: the lines of a text as values ([`frames`]), where the leaves stand in a state's code
-//! ([`Model::leaves`]), and all steps from a state, read from the table ([`Comparison::left_steps_from`]).
+//! which are tested and not proved: the lines of a text as values ([`frames`]), how a state's code is laid out
+//! ([`Model::layout`]), and all steps from a state, read from the table ([`Comparison::left_steps_from`]).
 //!
 //! ```
 //! use seipolku::Table;
@@ -18,6 +18,7 @@
 mod comparison;
 mod ffi;
 pub mod frames;
+pub mod layout;
 mod limits;
 mod model;
 mod refusal;
@@ -25,7 +26,7 @@ mod steps;
 mod table;
 
 pub use comparison::{Comparison, Mode, Verdict};
-pub use frames::LeafUse;
+pub use layout::{Layout, LeafUse};
 pub use limits::{CODES, LAST_LEVEL, MAX_BITS};
 pub use model::{model, Model};
 pub use refusal::{Fault, Refusal, Side};

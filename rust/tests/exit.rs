@@ -73,7 +73,7 @@ fn steps(written: &str) -> Vec<(u64, u64, u64)> {
     let mut table = Table::new(1 << 16).unwrap();
     let compared = table.compare(&text, &text, LIMIT).unwrap();
     let mut all = Vec::new();
-    for now in (0..1 << found.bits).filter(|code| found.leaves.iter().all(|l| l.state(*code) < l.states)) {
+    for now in found.layout.codes() {
         let mut walked: Vec<(u64, u64)> = compared.left_steps_from(now, &found).unwrap().collect();
         walked.sort_unstable();
         let every = (0..64).flat_map(|action| (0..1 << found.bits).map(move |next| (action, next)));

@@ -39,7 +39,7 @@ fn models_within() {
         let found = model(&joined(bits)).unwrap();
         let leaves = u64::from(bits);
         assert_eq!((found.bits, found.lines, found.uses, found.states), (leaves, leaves, leaves, 1 << bits));
-        assert_eq!(found.leaves.last().map(|l| (l.shift, l.width)), Some((bits - 1, 1)));
+        assert_eq!(found.layout.leaves().last().map(|l| (l.shift, l.width)), Some((bits - 1, 1)));
         assert_eq!(model(&unused(bits)).unwrap().bits, 1);
     }
 }

@@ -4,7 +4,7 @@ mod common;
 
 use common::{repository, Vector, LIMIT};
 use seipolku::frames::{Frame, Lines};
-use seipolku::{model, LeafUse, Model, Side, Table, MAX_BITS};
+use seipolku::{model, Layout, LeafUse, Model, Side, Table, MAX_BITS};
 use std::fs;
 
 fn leaf(line: usize, shift: u32, width: u32, states: u64) -> LeafUse {
@@ -14,25 +14,28 @@ fn leaf(line: usize, shift: u32, width: u32, states: u64) -> LeafUse {
 #[test]
 fn a_stored_model() {
     let text = fs::read(repository("models/gas_closed_right.hex")).unwrap();
-    let Model { bits, lines, uses, states, leaves } = model(&text).unwrap();
+    let Model { bits, lines, uses, states, layout } = model(&text).unwrap();
     assert_eq!((bits, lines, uses, states), (14, 20, 5, 2700));
-    let states: Vec<u64> = leaves.iter().map(|l| l.states).collect();
-    assert_eq!(states.iter().product::<u64>(), 2700);
+    let leaves = layout.leaves();
+    assert_eq!(leaves.iter().map(|l| l.states).product::<u64>(), 2700);
     assert_eq!(leaves.iter().map(|l| l.width).sum::<u32>(), 14);
 }
 
 #[test]
 fn one_state() {
-    let expected = Model { bits: 0, lines: 1, uses: 1, states: 1, leaves: vec![leaf(0, 0, 0, 1)] };
+    let expected = Model { bits: 0, lines: 1, uses: 1, states: 1, layout: Layout::default() };
     assert_eq!(model(b"000101\n").unwrap(), expected);
-    assert_eq!(expected.leaves[0].state(12345), 0);
+    assert_eq!(expected.layout.leaves(), [leaf(0, 0, 0, 1)]);
+    assert_eq!(expected.layout.leaves()[0].state(12345), 0);
+    assert_eq!((expected.layout.codes(), expected.layout.is_state(1)), (vec![0], false));
 }
 
 /// The model is the last line's process: earlier lines that it does not use count as lines only.
 #[test]
 fn unused_lines() {
     let found = model(b"000140\n010105\n02030101\n").unwrap();
-    assert_eq!(found, Model { bits: 3, lines: 3, uses: 1, states: 5, leaves: vec![leaf(1, 0, 3, 5)] });
+    assert_eq!((found.bits, found.lines, found.uses, found.states), (3, 3, 1, 5));
+    assert_eq!(found.layout.leaves(), [leaf(1, 0, 3, 5)]);
 }
 
 /// All stored vectors.
@@ -87,9 +90,9 @@ const MIXED: &[u8] = b"000103000201010202\n010101000400\n020105000601010604\n030
 
 #[test]
 fn places() {
-    let Model { bits, lines, uses, states, leaves } = model(MIXED).unwrap();
+    let Model { bits, lines, uses, states, layout } = model(MIXED).unwrap();
     assert_eq!((bits, lines, uses, states), (7, 6, 4, 45));
-    assert_eq!(leaves, [leaf(2, 0, 3, 5), leaf(0, 3, 2, 3), leaf(1, 5, 0, 1), leaf(0, 5, 2, 3)]);
+    assert_eq!(layout.leaves(), [leaf(2, 0, 3, 5), leaf(0, 3, 2, 3), leaf(1, 5, 0, 1), leaf(0, 5, 2, 3)]);
 }
 
 /// Each leaf use alone moves its own bits, and nothing else moves: so the library's code has the places that were told.
@@ -100,7 +103,7 @@ fn places_by_look_ups() {
     let mut table = Table::new(1 << 16).unwrap();
     let compared = table.compare(MIXED, b"000101\n", LIMIT).unwrap();
     let mut steps = 0;
-    for now in (0..1 << found.bits).filter(|code| found.leaves.iter().all(|l| l.state(*code) < l.states)) {
+    for now in found.layout.codes() {
         let expected = moved(&found, &lines, now);
         assert_eq!(sorted(compared.left_steps_from(now, &found).unwrap()), expected, "{now}");
         for action in 0..64 {
@@ -126,7 +129,7 @@ fn places_in_the_highest_bits() {
     let [one, other] = &mut tables;
     let left = one.compare(&text, b"000101\n", LIMIT).unwrap();
     let right = other.compare(b"000101\n", &text, LIMIT).unwrap();
-    for state in (0..1 << low.bits).filter(|code| low.leaves.iter().all(|l| l.state(*code) < l.states)) {
+    for state in low.layout.codes() {
         let now = (state << (found.bits - low.bits)) + 0x1_2345;
         let expected = moved(&found, &lines, now);
         assert_eq!(sorted(left.left_steps_from(now, &found).unwrap()), expected, "{now}");
@@ -147,7 +150,7 @@ fn sorted(steps: impl Iterator<Item = (u64, u64)>) -> Vec<(u64, u64)> {
 /// The steps of a code by action and next code, ascending, where the leaves never meet.
 fn moved(found: &Model, lines: &Lines, now: u64) -> Vec<(u64, u64)> {
     let mut steps = Vec::new();
-    for leaf in &found.leaves {
+    for leaf in found.layout.leaves() {
         let Frame::Leaf { triples, .. } = &lines.frames[leaf.line] else { panic!("not a leaf") };
         for triple in triples.iter().filter(|t| u64::from(t.from) == leaf.state(now)) {
             let others = now - (leaf.state(now) << leaf.shift);

@@ -4,12 +4,13 @@ use crate::arguments::{Form, Given};
 use crate::assemble::{assemble, declare, Built};
 use crate::aut::{self, Aut};
 use crate::commands::check::size;
+use crate::culprit;
 use crate::files;
 use crate::load::load;
 use crate::names::Names;
 use crate::numbering::Numbering;
 use crate::origin::{Kind, Origin, Read};
-use crate::outcome::{fail, Answer, Failure, Outcome, Stopped};
+use crate::outcome::{capital, fail, Answer, Failure, Outcome, Stopped};
 use crate::output;
 use crate::proved;
 use crate::readable;
@@ -130,12 +131,20 @@ fn write(
 /// The library's refusal of a built text, at the line of the file that it comes from.
 fn accepted(file: &Path, built: Built) -> Result<Built, Stopped> {
     let Some(refusal) = proved::refusal(built.model.encode().as_bytes()) else { return Ok(built) };
-    let line = usize::try_from(refusal.line).ok().and_then(|l| built.origins.get(l)).copied().unwrap_or(1);
+    let number = usize::try_from(refusal.line).unwrap_or(usize::MAX);
+    let line = built.origins.get(number).copied().unwrap_or(1);
+    let refused = built.model.up_to(number);
+    let size = culprit::size(&refused).map(|size| format!(" {}.", capital(&size)));
+    let advice = match refused.layout().is_some_and(|layout| layout.added() > 0) {
+        true => "Use fewer or smaller leaves, or fewer enables and disables, in this process: enable adds one bit and disable two.",
+        false => "Use fewer or smaller leaves in this process.",
+    };
     Err(Stopped::Refused(format!(
-        "{}, line {line}, column 1: refusal {}: {}. Use fewer or smaller leaves in this process.",
+        "{}, line {line}, column 1: refusal {}: {}.{} {advice}",
         file.display(),
         refusal.fault.number(),
-        refusals::rule(&refusal)
+        refusals::rule(&refusal),
+        size.unwrap_or_default()
     )))
 }
 

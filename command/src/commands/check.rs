@@ -42,15 +42,19 @@ fn missing(path: &Path, source: &Path) -> String {
     )
 }
 
-/// Lines, bits, leaf uses and states of the last line's process.
+/// Lines, bits, leaf uses and states of the last line's process. Bits that tell which operand is alive are given beside all of them.
 pub fn size(model: &Model) -> String {
     let space = Space::of(model);
+    let added = match space.added() {
+        0 => String::new(),
+        bits => format!(" ({bits} added)"),
+    };
     let leaves = model.frames.iter().filter(|f| matches!(f, Frame::Leaf { .. })).count();
     [
         counted(model.frames.len() as u64, "line"),
         counted(leaves as u64, "leaf line"),
         counted(space.parts.len() as u64, "leaf use"),
-        counted(u64::from(space.bits()), "bit"),
+        counted(u64::from(space.bits()), "bit") + &added,
         counted(space.states(), "state"),
     ]
     .join(", ")

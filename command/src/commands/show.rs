@@ -5,12 +5,12 @@ use crate::commands::check::size;
 use crate::dot;
 use crate::expression;
 use crate::files;
-use crate::frames::{Frame, EXIT};
+use crate::frames::Frame;
 use crate::load::{load, Loaded};
 use crate::outcome::{counted, fail, Answer, Outcome, Stopped};
 use crate::reach::{self, MOST, PART};
 use crate::readable;
-use crate::sorts::{self, Sort};
+use crate::sorts;
 use crate::words::{channel_list, spelled};
 
 pub const FORM: Form = Form { command: "show", values: &["--line", "--most"], flags: &["--dot"] };
@@ -43,9 +43,9 @@ fn words(loaded: &Loaded) -> String {
         "channels: {}\n\n",
         if numbers.is_empty() { "none".to_string() } else { numbers.join(", ") }
     );
-    let sorts = sorts::of(&loaded.model);
+    let exits = sorts::exits(&loaded.model);
     for (line, frame) in loaded.model.frames.iter().enumerate() {
-        let words = in_words(loaded, frame, &sorts[line]);
+        let words = in_words(loaded, frame, line, &exits);
         text += &format!("line {line}, {}: {words}\n", spelled(&names.process(line)));
         if matches!(frame, Frame::Leaf { .. }) {
             text += &readable::leaf(&loaded.model, names, line);
@@ -54,9 +54,10 @@ fn words(loaded: &Loaded) -> String {
     text + &format!("\nthe model: {}\n", expression::of(&loaded.model, names))
 }
 
-/// A line, given the actions that its process may take.
-fn in_words(loaded: &Loaded, frame: &Frame, sort: &Sort) -> String {
+/// A line, given of each line whether its process may exit.
+fn in_words(loaded: &Loaded, frame: &Frame, line: usize, exits: &[bool]) -> String {
     let names = &loaded.names;
+    let exits = |line: usize| exits.get(line).copied().unwrap_or(false);
     let process = |line: &u8| spelled(&names.process(usize::from(*line)));
     let on = |list: &[u8]| match list {
         [] => "no channel".to_string(),
@@ -71,7 +72,7 @@ fn in_words(loaded: &Loaded, frame: &Frame, sort: &Sort) -> String {
             "{} and {} composed: either side alone, or an output and an input on one channel together, as tau{}",
             process(i),
             process(j),
-            if sort.contains(&EXIT) { "; each side exits alone" } else { "" }
+            if exits(line) { "; each side exits alone" } else { "" }
         ),
         Frame::Restrict(i, list) => format!("{} restricted: no steps on {}", process(i), on(list)),
         Frame::Relabel { of, old, new } => {
@@ -84,5 +85,42 @@ fn in_words(loaded: &Loaded, frame: &Frame, sort: &Sort) -> String {
             process(j),
             on(list)
         ),
+        Frame::Enable { first, second } => {
+            enabling(&process(first), &process(second), exits(usize::from(*first)))
+        }
+        Frame::Disable { first, second } => {
+            disabling(&process(first), &process(second), exits(usize::from(*first)))
+        }
+    }
+}
+
+/// An enabling, given whether the first may exit.
+fn enabling(first: &str, second: &str, exits: bool) -> String {
+    let head = format!("{first} enables {second}");
+    let [first, second] = apart(first, second);
+    let ends = match exits {
+        true => format!("its exit becomes tau and starts {second}"),
+        false => format!("it never exits, so that {second} never starts"),
+    };
+    format!("{head}: {first} alone; {ends}")
+}
+
+/// A disabling, given whether the first may exit.
+fn disabling(first: &str, second: &str, exits: bool) -> String {
+    let head = format!("{first} disabled by {second}");
+    let [first, second] = apart(first, second);
+    let ends = match exits {
+        true => format!(", and an exit of {first}, which stays visible, drops {second}"),
+        false => String::new(),
+    };
+    format!("{head}: either may step; the first step of {second} drops {first}{ends}")
+}
+
+/// What the operands are called, also where one process is both.
+fn apart<'a>(first: &'a str, second: &'a str) -> [&'a str; 2] {
+    if first == second {
+        ["the first one", "the second one"]
+    } else {
+        [first, second]
     }
 }

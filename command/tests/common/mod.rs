@@ -106,7 +106,7 @@ pub struct Generated {
     pub bits: u32,
 }
 
-/// A model of at most so many bits in every line, with all six kinds of lines.
+/// A model of at most so many bits in every line, with all eight kinds of lines.
 pub fn model(random: &mut Random, budget: u32) -> Generated {
     let mut lines: Vec<(Vec<u8>, u32, usize)> = Vec::new();
     for number in 0..1 + random.below(9) {
@@ -129,9 +129,11 @@ fn line(random: &mut Random, earlier: &[(Vec<u8>, u32, usize)], budget: u32) -> 
     let (bits, uses) = (earlier[i].1 + earlier[j].1, earlier[i].2 + earlier[j].2);
     let list: Vec<u8> = (0..random.below(4)).map(|_| channel(random)).collect();
     let (one, other) = (i as u8, j as u8);
-    match random.below(5) {
+    match random.below(7) {
         0 if bits <= budget && uses <= 64 => (vec![2, one, other], bits, uses),
         1 if bits <= budget && uses <= 64 => ([vec![6, one, other], list].concat(), bits, uses),
+        5 if bits < budget && uses <= 64 => (vec![7, one, other], bits + 1, uses),
+        6 if bits + 1 < budget && uses <= 64 => (vec![8, one, other], bits + 2, uses),
         2 => (vec![4, one, channel(random), channel(random)], earlier[i].1, earlier[i].2),
         3 => ([vec![5, one], list].concat(), earlier[i].1, earlier[i].2),
         _ => ([vec![3, one], list].concat(), earlier[i].1, earlier[i].2),
