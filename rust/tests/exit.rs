@@ -2,14 +2,9 @@
 
 mod common;
 
-use common::{answer, text, LIMIT};
+use common::{answer, lines, steps, LIMIT};
 use seipolku::frames::{Lines, EXIT, MOST_CHANNEL};
 use seipolku::{model, Fault, Refusal, Side, Table};
-
-/// A text whose lines have `/` between them.
-fn lines(written: &str) -> Vec<u8> {
-    text(&format!("{written}/"))
-}
 
 /// Action 62, and channel 30 wherever a channel may stand.
 #[test]
@@ -64,24 +59,6 @@ fn lines_as_values() {
     assert_eq!(Lines::decode(&lines("000102003E01")).unwrap().channels(), []);
     // Texts that the library refuses are decoded all the same.
     assert_eq!(Lines::decode(&lines("000102003F01/0103001F")).unwrap().channels(), []);
-}
-
-/// All steps as now code, action and next code: by the walk and by look-ups of every code and action, which must agree.
-fn steps(written: &str) -> Vec<(u64, u64, u64)> {
-    let text = lines(written);
-    let found = model(&text).unwrap();
-    let mut table = Table::new(1 << 16).unwrap();
-    let compared = table.compare(&text, &text, LIMIT).unwrap();
-    let mut all = Vec::new();
-    for now in found.layout.codes() {
-        let mut walked: Vec<(u64, u64)> = compared.left_steps_from(now, &found).unwrap().collect();
-        walked.sort_unstable();
-        let every = (0..64).flat_map(|action| (0..1 << found.bits).map(move |next| (action, next)));
-        let held = every.filter(|(action, next)| compared.left_steps(*action, now, *next).unwrap());
-        assert!(held.eq(walked.iter().copied()), "{written} {now}");
-        all.extend(walked.into_iter().map(|(action, next)| (now, action, next)));
-    }
-    all
 }
 
 const LEAF: &str = "000102003E01";

@@ -2,7 +2,7 @@
 
 mod common;
 
-use common::{answer, text, LIMIT};
+use common::{answer, lines, steps, LIMIT};
 use seipolku::frames::{Frame, Lines, EXIT};
 use seipolku::{model, Fault, LeafUse, Refusal, Side, Table, MAX_BITS, MAX_TABLE};
 
@@ -12,11 +12,6 @@ const OUT_2: u64 = 4;
 /// A leaf that steps and exits, one that steps, and both under an operator.
 const FIRST: &str = "000103000201013E02";
 const SECOND: &str = "010102000401";
-
-/// A text whose lines have `/` between them.
-fn lines(written: &str) -> Vec<u8> {
-    text(&format!("{written}/"))
-}
 
 fn both(last: &str) -> String {
     format!("{FIRST}/{SECOND}/{last}")
@@ -119,24 +114,6 @@ fn layouts() {
     for code in [3, 5, 12, 16, 18, 32] {
         assert!(!disabling.layout.is_state(code), "{code}");
     }
-}
-
-/// All steps as now code, action and next code.
-fn steps(written: &str) -> Vec<(u64, u64, u64)> {
-    let text = lines(written);
-    let found = model(&text).unwrap();
-    let mut table = Table::new(1 << 16).unwrap();
-    let compared = table.compare(&text, &text, LIMIT).unwrap();
-    let mut all = Vec::new();
-    for now in found.layout.codes() {
-        for (action, next) in compared.left_steps_from(now, &found).unwrap() {
-            assert!(found.layout.is_state(next), "{written}: {now} {action} {next}");
-            assert_eq!(compared.right_steps(action, now, next), Ok(true));
-            all.push((now, action, next));
-        }
-    }
-    all.sort_unstable();
-    all
 }
 
 /// The exit of the first becomes an internal step to the second's start; the second's exit stays.

@@ -1,7 +1,7 @@
-//! What the tests share: the stored vectors, and an answer in their words.
+//! What the tests share: the stored vectors, an answer in their words, and all steps of a model.
 #![allow(dead_code)]
 
-use seipolku::{Comparison, Refusal, Side, Table, Verdict};
+use seipolku::{model, Comparison, Refusal, Side, Table, Verdict};
 use std::fs;
 use std::path::PathBuf;
 
@@ -82,4 +82,32 @@ fn refused(refusal: &Refusal) -> String {
         Side::Neither => 2,
     };
     format!("refused {} {side} {}", refusal.fault.number(), refusal.line)
+}
+
+/// A text whose lines have `/` between them.
+pub fn lines(written: &str) -> Vec<u8> {
+    text(&format!("{written}/"))
+}
+
+/// All steps from states as now code, action and next code: by the walk and by look-ups of every code and action, which must agree. Each
+/// leads to a state, and the right model, which is the same, has it too.
+pub fn steps(written: &str) -> Vec<(u64, u64, u64)> {
+    let text = lines(written);
+    let found = model(&text).unwrap();
+    let mut table = Table::new(1 << 16).unwrap();
+    let compared = table.compare(&text, &text, LIMIT).unwrap();
+    let mut all = Vec::new();
+    for now in found.layout.codes() {
+        let mut walked: Vec<(u64, u64)> = compared.left_steps_from(now, &found).unwrap().collect();
+        walked.sort_unstable();
+        let every = (0..64).flat_map(|action| (0..1 << found.bits).map(move |next| (action, next)));
+        let held = every.filter(|(action, next)| compared.left_steps(*action, now, *next).unwrap());
+        assert!(held.eq(walked.iter().copied()), "{written} {now}");
+        for (action, next) in walked {
+            assert!(found.layout.is_state(next), "{written}: {now} {action} {next}");
+            assert_eq!(compared.right_steps(action, now, next), Ok(true));
+            all.push((now, action, next));
+        }
+    }
+    all
 }
