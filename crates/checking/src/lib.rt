@@ -5,6 +5,7 @@ ghost use lib.ListN.{length};
 ghost use Rattle.verdicts.specs.Bisimulation.{strong, weak};
 ghost use Rattle.verdicts.specs.Contract.{verdict-values};
 ghost use Rattle.checking.specs.Program.{roundLimit, verdict-line, line-in, Printed};
+ghost use Rattle.checking.specs.declared.Line.the-variants.{Refused};
 use libc::STDOUT_FILENO;
 use verdicts::Answer;
 use verdicts::Verdict;
@@ -98,7 +99,16 @@ fn line_of(verdict: Verdict, nodes: u32) -> Line
     }
 }
 
-// What both lines say: a refusal of the comparison stands on both.
+// A refusal of the comparison stands on both lines.
+fn refused_lines(number: u8, side: u8, line: usize) -> Lines
+    ensures { λ r. ⌜ (r .strong ≡ Refused number side line) × (r .weak ≡ Refused number side line) ⌝ }
+{
+    let s = Line::Refused { number, side, line };
+    let w = Line::Refused { number, side, line };
+    Lines { strong: s, weak: w }
+}
+
+// What both lines say.
 fn lines_of(answer: Answer) -> Lines
     ensures { λ r. ⌜ (r .strong ≡ line-in strong answer) × (r .weak ≡ line-in weak answer) ⌝ }
 {
@@ -110,15 +120,12 @@ fn lines_of(answer: Answer) -> Lines
             weak,
             nodes,
         } => {
-            let s = line_of(strong, nodes);
-            let w = line_of(weak, nodes);
+            let s = line_of(strong, nodes.whole);
+            let w = line_of(weak, nodes.whole);
             Lines { strong: s, weak: w }
         }
-        Answer::Refused { number, side, line } => {
-            let s = Line::Refused { number, side, line };
-            let w = Line::Refused { number, side, line };
-            Lines { strong: s, weak: w }
-        }
+        Answer::Full { nodes: _ } => refused_lines(8, 2, 0),
+        Answer::Refused { number, side, line } => refused_lines(number, side, line),
     }
 }
 

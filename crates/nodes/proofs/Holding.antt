@@ -12,18 +12,19 @@ use lib.Dec.{ltb}
 use lib.ListN.{length, getD, set}
 use borrow.Author.Tests.{eq-eqb, ne-eqb, lt-ltb, le-ltb}
 use Rattle.nodes.specs.declared.unique.Made.the-variants as made
+use Rattle.nodes.specs.declared.unique.MadeNode.the-variants as node
 use Rattle.nodes.specs.declared.unique.Found.the-variants as found
 use Rattle.nodes.specs.Fun.{Fun}
 use Rattle.nodes.specs.Table.{Table, maxLength}
 use Rattle.nodes.specs.internal.Packed.{packing, levels, lows, packed-table}
 use Rattle.nodes.specs.internal.Parts.{covers, hashes, headsAt, memoryAt, linksIn, headsIn, memoIn}
 use Rattle.nodes.specs.internal.Index.{hashOf, coverage, Indexed, Indexing, Linked, Linking, Begins}
-use Rattle.nodes.specs.internal.Make.{Makeable, IsNode, Finds, nodeFun, Makes, Making, MadeFull}
+use Rattle.nodes.specs.internal.Make.{Makeable, IsNode, Finds, nodeFun, MakesNode, MakingNode, Making, MadeFull}
 use Rattle.nodes.specs.internal.Operate.{cofactorOf, slotsIn, Holds, Stores, Keeping, Finishing}
 use Rattle.nodes.specs.internal.Work.{isDeeper}
 use Rattle.nodes.proofs.Parting.{packed-level, packed-low, packed-again, levels-length, level-at, low-at, levels-set, lows-set, links-length, heads-length, memo-length, link-at, head-at, memo-at, same-covers, same-hashes, same-memory, links-set-link, heads-set-link, memo-set-link, links-set-head, heads-set-head, memo-set-head, links-set-memo, heads-set-memo, memo-set-memo}
 use Rattle.nodes.proofs.Indexing.{coverage-none, coverage-some, coverage-le, Chained, chained-start, chained-next, chain-falls, chain-within, linked-none, linked-at}
-use Rattle.nodes.proofs.Making.{made-new, made-linked, made-full}
+use Rattle.nodes.proofs.Making.{absent, made-new, made-linked, made-full}
 
 -- ---- entries
 
@@ -233,12 +234,14 @@ module _ (packed high : List ℕ) (used v lo hi : ℕ) (ok : Makeable (packed-ta
 
   module _ (differ : lo ≡ hi → ⊥) (none : Finds here v lo hi found.Nothing) where
     pub packed-new : (work work′ : List ℕ) → used < length packed → Indexing here work → Linking work used v lo hi work′
-        → Making here (set packed used (packing v lo)) (set high used hi) work work′ (nodeFun here v lo hi) (made.At used (used + 1))
+        → MakingNode here (set packed used (packing v lo)) (set high used hi) work work′ (nodeFun here v lo hi) (node.New used)
     packed-new work work′ room index link =
         let inside : used < length (levels packed) = subst (λ (n : ℕ). used < n) (sym (levels-length packed)) room in (
-          subst₂ (λ (level low : List ℕ). Makes here level low (set high used hi) (headsIn work′) (linksIn work′) (nodeFun here v lo hi) (made.At used (used + 1)))
-              (sym (levels-set packed used v lo child-small)) (sym (lows-set packed used v lo child-small))
-              (made-new here v lo hi ok differ none inside, made-linked here v lo hi ok differ none inside (headsIn work) (linksIn work) (headsIn work′) (linksIn work′) index (link .0)),
+          subst₂ (λ (level low : List ℕ). MakesNode here level low (set high used hi) (headsIn work′) (linksIn work′) (nodeFun here v lo hi) (node.New used))
+              (sym (levels-set packed used v lo child-small)) (sym (lows-set packed used v lo child-small)) (
+                record { absent = absent here v lo hi ok differ none; made = made-new here v lo hi ok differ none inside },
+                made-linked here v lo hi ok differ none inside (headsIn work) (linksIn work) (headsIn work′) (linksIn work′) index (link .0),
+              ),
           link .1,
         )
 

@@ -1,6 +1,6 @@
 // What calls one after the other hand on.
 ghost use mathlib.Core.Path.{_≡_};
-ghost use Prim.Native.Nat.{_≤_};
+ghost use Prim.Native.Nat.{_-_, _≤_};
 ghost use lib.ListN.{length};
 ghost use Rattle.nodes.specs.Table.{maxLength};
 ghost use Rattle.nodes.specs.Fun.{digit};
@@ -39,6 +39,16 @@ pub(crate) fn can_apply(room: Room, f: u32, g: u32) -> bool
     ensures { λ r. ⌜ r ≡ appliesTo room f g ⌝ }
 {
     !room.full && (f < room.used && g < room.used)
+}
+
+// The nodes of the table: its entries in use but the constants. Of a full room these are as many as fit.
+pub fn node_count(room: Room) -> u32
+    ensures { λ r. ⌜ r ≡ room .used - 2 ⌝ }
+{
+    if room.used < 2 {
+        return 0;
+    }
+    room.used - 2
 }
 
 // The room with a constant for its root.

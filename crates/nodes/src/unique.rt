@@ -3,7 +3,7 @@ ghost use Prim.Native.Nat.{_<_};
 ghost use Rattle.nodes.specs.internal.Parts.{linksIn, headsIn};
 ghost use Rattle.nodes.specs.Table.{maxLength, WellFormed};
 ghost use Rattle.nodes.specs.internal.Index.{coverage, Indexing, InIndex, Begins, LinkingAt};
-ghost use Rattle.nodes.specs.internal.Make.{Makeable, FindsFrom, FindsBelow, Finds, Making, nodeFun};
+ghost use Rattle.nodes.specs.internal.Make.{Makeable, FindsFrom, FindsBelow, Finds, MakingNode, Making, nodeFun};
 ghost use Rattle.nodes.specs.internal.Lent.{table-of, table-in};
 use super::limits::MAX_LENGTH;
 use super::work::covered;
@@ -15,6 +15,13 @@ use super::work::hashes;
 // that the table is too short.
 pub enum Made {
     At(u32, u32),
+    Full,
+}
+
+// What the step that makes a node says of it: it was found, it is new, or there is no entry for it.
+pub enum MadeNode {
+    Found(u32),
+    New(u32),
     Full,
 }
 
@@ -133,8 +140,42 @@ fn link(work: &mut [u32], used: u32, head: usize)
     }
 }
 
-// The entry of the function that is hi's where level v is true and lo's elsewhere: a new node only
+// The entry of the function that is hi's where level v is true and lo's elsewhere, and whether it is new: a node is made only
 // where there is none.
+fn make_node(
+    packed: &mut [u32],
+    high: &mut [u32],
+    work: &mut [u32],
+    used: u32,
+    v: u8,
+    lo: u32,
+    hi: u32,
+) -> MadeNode
+    requires { ⌜ Makeable (table-of packed high used) v lo hi ⌝ }
+    requires { ⌜ Indexing (table-of packed high used) (now work) ⌝ }
+    ensures { λ r. ⌜ MakingNode (table-in packed high used) (now (packed .exit)) (now (high .exit)) (now (work .entry)) (now (work .exit)) (nodeFun (table-in packed high used) v lo hi) r ⌝ }
+{
+    if lo == hi {
+        return MadeNode::Found(lo);
+    }
+    let head = head_of(work, v, lo, hi);
+    match find(packed, high, work, used, head, v, lo, hi) {
+        Found::At(i) => MadeNode::Found(i),
+        Found::Nothing => {
+            let at = used as usize;
+            if at < packed.len() {
+                packed[at] = (v as u32) * MAX_LENGTH + lo;
+                high[at] = hi;
+                link(work, used, head);
+                MadeNode::New(used)
+            } else {
+                MadeNode::Full
+            }
+        }
+    }
+}
+
+// The same entry, with the number of entries then in use: one more where the node is new.
 pub fn make(
     packed: &mut [u32],
     high: &mut [u32],
@@ -148,22 +189,9 @@ pub fn make(
     requires { ⌜ Indexing (table-of packed high used) (now work) ⌝ }
     ensures { λ r. ⌜ Making (table-in packed high used) (now (packed .exit)) (now (high .exit)) (now (work .entry)) (now (work .exit)) (nodeFun (table-in packed high used) v lo hi) r ⌝ }
 {
-    if lo == hi {
-        return Made::At(lo, used);
-    }
-    let head = head_of(work, v, lo, hi);
-    match find(packed, high, work, used, head, v, lo, hi) {
-        Found::At(i) => Made::At(i, used),
-        Found::Nothing => {
-            let at = used as usize;
-            if at < packed.len() {
-                packed[at] = (v as u32) * MAX_LENGTH + lo;
-                high[at] = hi;
-                link(work, used, head);
-                Made::At(used, used + 1)
-            } else {
-                Made::Full
-            }
-        }
+    match make_node(packed, high, work, used, v, lo, hi) {
+        MadeNode::Found(i) => Made::At(i, used),
+        MadeNode::New(i) => Made::At(i, used + 1),
+        MadeNode::Full => Made::Full,
     }
 }

@@ -13,31 +13,42 @@ use Rattle.nodes.specs.declared.lookup.Looked.{Looked}
 use Rattle.verdicts.specs.Bisimulation.{strong, weak}
 use Rattle.verdicts.specs.Contract.{Values, valuesOf, Compared}
 use Rattle.verdicts.specs.declared.Answer.{Answer}
-use Rattle.verdicts.specs.declared.Answer.the-variants.{Answered, Refused}
+use Rattle.verdicts.specs.declared.Answer.the-variants.{Answered, Full, Refused}
+use Rattle.verdicts.specs.declared.Nodes.{Nodes}
 
 -- 0: the comparison is answered, 2: it is refused
 abbrev pub kindOf : Answer → ℕ
 kindOf (Answered l r s w nodes) = 0
+kindOf (Full nodes) = 2
 kindOf (Refused number side line) = 2
 
 -- the list with six words from a place on
 abbrev pub six : List ℕ → (at a b c d e f : ℕ) → List ℕ
 six words at a b c d e f = set (set (set (set (set (set words at a) (at + 1) b) (at + 2) c) (at + 3) d) (at + 4) e) (at + 5) f
 
--- The twelve words of an answer: left root, right root; number, rounds and iterate's root of the strong verdict, and of the weak one; nodes; 0, 0, 0.
+-- the last six of twelve words: rounds and iterate's root of the weak verdict; nodes of the whole list, up to the relations, up to the weak answers; 0
+abbrev pub last-words : List ℕ → (rounds iterate : ℕ) → Nodes → List ℕ
+last-words words rounds iterate nodes = six words 6 rounds iterate (nodes .whole) (nodes .relations) (nodes .answers) 0
+
+-- the twelve words of an answer: left root, right root; number, rounds and iterate's root of the strong verdict, and of the weak one; the three numbers of nodes; 0
 abbrev pub answer-words : List ℕ → Values → List ℕ
 answer-words words v =
-    six (six words 0 (v .left) (v .right) (v .verdict strong .number) (v .verdict strong .rounds) (v .verdict strong .iterate) (v .verdict weak .number))
-    6 (v .verdict weak .rounds) (v .verdict weak .iterate) (v .nodes) 0 0 0
+    last-words (six words 0 (v .left) (v .right) (v .verdict strong .number) (v .verdict strong .rounds) (v .verdict strong .iterate) (v .verdict weak .number))
+    (v .verdict weak .rounds) (v .verdict weak .iterate) (v .nodes)
 
 -- the first six words of a refusal: number, side, line, 0, 0, 0
 abbrev pub refusal-words : List ℕ → Values → List ℕ
 refusal-words words v = six words 0 (v .number) (v .side) (v .line) 0 0 0
 
+-- its twelve: of 8 with the nodes, of other refusals with 0 in their place
+abbrev pub refusal-twelve : List ℕ → Values → List ℕ
+refusal-twelve words v = last-words (refusal-words words v) 0 0 (v .nodes)
+
 -- the words of an answer or refusal, by the documents' number and values; those past the twelfth stay
 abbrev pub written : List ℕ → Answer → List ℕ
 written words (Answered l r s w nodes) = answer-words words (valuesOf (Answered l r s w nodes))
-written words (Refused number side line) = six (refusal-words words (valuesOf (Refused number side line))) 6 0 0 0 0 0 0
+written words (Full nodes) = refusal-twelve words (valuesOf (Full nodes))
+written words (Refused number side line) = refusal-twelve words (valuesOf (Refused number side line))
 
 -- The contract of the exported comparison. With fewer than twelve words for the answer it returns 3 and touches nothing. The work slice is free
 -- afterwards.

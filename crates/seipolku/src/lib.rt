@@ -6,10 +6,11 @@ ghost use Prim.Native.Nat.{_+_, _≤_};
 ghost use lib.ListN.{length};
 ghost use Rattle.nodes.specs.Lookup.{slices, look-up};
 ghost use Rattle.verdicts.specs.Contract.{verdict-values};
-ghost use Rattle.seipolku.specs.Exported.{six, written, kindOf, Exported, numbered};
+ghost use Rattle.seipolku.specs.Exported.{six, last-words, written, kindOf, Exported, numbered};
 use nodes::lookup::Looked;
 use nodes::lookup::look_up;
 use verdicts::Answer;
+use verdicts::Nodes;
 use verdicts::Verdict;
 use verdicts::compare::compare;
 
@@ -34,6 +35,24 @@ fn put(words: &mut [u64], at: usize, a: u64, b: u64, c: u64, d: u64, e: u64, f: 
     words[at + 3] = d;
     words[at + 4] = e;
     words[at + 5] = f;
+}
+
+// Writes the last six of the twelve words: the two that are left of the weak verdict, and the nodes of the whole list, up to the relations, and
+// up to the weak answers.
+fn put_nodes(words: &mut [u64], rounds: u64, iterate: u64, nodes: Nodes)
+    requires { ⌜ 12 ≤ length (now words) ⌝ }
+    ensures { λ _. ⌜ now (words .exit) ≡ last-words (now (words .entry)) rounds iterate nodes ⌝ }
+{
+    put(
+        words,
+        6,
+        rounds,
+        iterate,
+        nodes.whole as u64,
+        nodes.relations as u64,
+        nodes.answers as u64,
+        0,
+    );
 }
 
 // A verdict's words, by its number and values.
@@ -84,8 +103,13 @@ fn write(answer: Answer, words: &mut [u64]) -> u64
                 s.iterate,
                 w.number,
             );
-            put(words, 6, w.rounds, w.iterate, nodes as u64, 0, 0, 0);
+            put_nodes(words, w.rounds, w.iterate, nodes);
             0
+        }
+        Answer::Full { nodes } => {
+            put(words, 0, 8, 2, 0, 0, 0, 0);
+            put_nodes(words, 0, 0, nodes);
+            2
         }
         Answer::Refused { number, side, line } => {
             put(words, 0, number as u64, side as u64, line as u64, 0, 0, 0);

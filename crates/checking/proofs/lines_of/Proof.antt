@@ -11,9 +11,12 @@ returns c =
     rw (c-answer .answer .given .1) (c-line-of .line-of .ensures, c .line-of2 .ensures)
 
 returns-2 : tie.Need-returns-2
-returns-2 c =
-    let c-answer2 = c .before in
-    rw (c-answer2 .answer2 .given .1) (refl, refl)
+returns-2 c = rw (c .before .enum-told .given .1) (c .refused-lines .ensures)
+
+returns-3 : tie.Need-returns-3
+returns-3 c =
+    let c-answer2 = c .before .before in
+    rw (c-answer2 .answer2 .given .1) (c .refused-lines2 .ensures)
 
 pub lines-of-spec : {M : Type 1} → statement M
 lines-of-spec =
@@ -23,5 +26,9 @@ lines-of-spec =
     (λ c κs. search needs)
     (λ c κs. search needs)
     (λ c. search needs)
+    (λ c κs. search needs)
+    (λ c. search needs)
+    (λ c κs. search needs)
     returns
-    returns-2)
+    returns-2
+    returns-3)

@@ -1,10 +1,12 @@
 -- What making a node needs and answers. Assumes nothing.
 use mathlib.Core.Path.{_≡_}
 use mathlib.Core.List.{List}
-use Prim.Native.Nat.{ℕ, _≤_, _<_}
+use Prim.Native.Nat.{ℕ, _+_, _≤_, _<_}
 use lib.ListN.{length}
 use Rattle.nodes.specs.declared.unique.Found.{Found}
 use Rattle.nodes.specs.declared.unique.Found.the-variants as found
+use Rattle.nodes.specs.declared.unique.MadeNode.{MadeNode}
+use Rattle.nodes.specs.declared.unique.MadeNode.the-variants as node
 use Rattle.nodes.specs.declared.unique.Made.{Made}
 use Rattle.nodes.specs.declared.unique.Made.the-variants as made
 use Rattle.nodes.specs.Fun.{Fun}
@@ -54,6 +56,11 @@ pub record MadeAt (t t′ : Table) (f : Fun) (i : ℕ) : Type 0 where
   pub built : Built t t′ f i
   pub fresh : (k : ℕ) → t .used ≤ k → k < t′ .used → k ≡ i
 
+-- the same of a node that t did not have
+pub record MadeNew (t t′ : Table) (f : Fun) (i : ℕ) : Type 0 where
+  pub absent : Absent t f
+  pub made : MadeAt t t′ f i
+
 -- t is full, no entry stands for f, and the lists are as they were
 pub record MadeFull (t : Table) (level low high : List ℕ) (f : Fun) : Type 0 where
   pub same-level : level ≡ t .level
@@ -62,10 +69,24 @@ pub record MadeFull (t : Table) (level low high : List ℕ) (f : Fun) : Type 0 w
   pub full : t .used ≡ length (t .level)
   pub absent : Absent t f
 
+-- The step that makes a node says whether it is new. Found: the entries in use are those of before, and i is one of them. New: i is the one entry more,
+-- and no entry stood for f before. Full: no entry stands for f, and none is left for it.
+abbrev pub MakesNode : Table → List ℕ → List ℕ → List ℕ → List ℕ → List ℕ → Fun → MadeNode → Type 0
+MakesNode t level low high head next f (node.Found i) =
+    MadeAt t (table level low high (t .used)) f i × Indexed (table level low high (t .used)) head next
+MakesNode t level low high head next f (node.New i) =
+    MadeNew t (table level low high (t .used + 1)) f i × Indexed (table level low high (t .used + 1)) head next
+MakesNode t level low high head next f node.Full = MadeFull t level low high f
+
+-- its caller counts: the entry comes with the number of entries then in use
 abbrev pub Makes : Table → List ℕ → List ℕ → List ℕ → List ℕ → List ℕ → Fun → Made → Type 0
 Makes t level low high head next f (made.At i n) = MadeAt t (table level low high n) f i × Indexed (table level low high n) head next
 Makes t level low high head next f made.Full = MadeFull t level low high f
 
 -- the same of the lists that a call holds: the memory of results is as it was
+abbrev pub MakingNode : Table → List ℕ → List ℕ → List ℕ → List ℕ → Fun → MadeNode → Type 0
+MakingNode t packed high work work′ f r =
+    MakesNode t (levels packed) (lows packed) high (headsIn work′) (linksIn work′) f r × (memoIn work′ ≡ memoIn work)
+
 abbrev pub Making : Table → List ℕ → List ℕ → List ℕ → List ℕ → Fun → Made → Type 0
 Making t packed high work work′ f r = Makes t (levels packed) (lows packed) high (headsIn work′) (linksIn work′) f r × (memoIn work′ ≡ memoIn work)

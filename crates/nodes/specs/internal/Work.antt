@@ -3,7 +3,7 @@ use mathlib.Core.Path.{_≡_}
 use mathlib.Core.Logic.{_⊎_}
 use mathlib.Core.Bool.{Bool, true, false, not, _&&_}
 use mathlib.Core.List.{List, [], _∷_, List·Memᴰ}
-use Prim.Native.Nat.{ℕ, _+_, _*_, _≤_, _<_}
+use Prim.Native.Nat.{ℕ, _+_, _-_, _*_, _≤_, _<_}
 use lib.ListN.{length, getD}
 use lib.Dec.{ltb}
 use Rattle.nodes.specs.declared.room.Room.{Room}
@@ -94,6 +94,12 @@ pub data Does (s s′ : Store) (fs : List Fun) : Type 0 where
   stayed : s .full ≡ true → s′ ≡ s → Does s s′ fs
   grew : s .full ≡ false → s′ .full ≡ false → Grows (s .table) (s′ .table) fs → Does s s′ fs
   filled : s .full ≡ false → s′ .full ≡ true → Lacks (s .table) (s′ .table) fs → Does s s′ fs
+
+-- a store was reached from s by working the functions fs out, or by filling the table with them, and n is the number of its nodes
+pub record Counts (s : Store) (fs : List Fun) (n : ℕ) : Type 0 where
+  pub reached : Store
+  pub does : Does s reached fs
+  pub nodes : n ≡ reached .table .used - 2
 
 -- entry i stands for f, where the table is not full
 abbrev pub Stands : Store → ℕ → Fun → Type 0

@@ -1,99 +1,58 @@
--- `nodes::make` meets its contract: each way out is a law of `proofs/Making.antt` or `proofs/Holding.antt`. Assumes nothing.
+-- `nodes::make` meets its contract: it counts what `make_node` says. Assumes nothing.
 use borrow.Author.Needs.{needs}
-use mathlib.Core.Path.{refl, subst}
+use mathlib.Core.Path.{subst}
 use native.Mathlib.Omega.{arith}
 use Rattle.nodes.specs.internal.Packed.{packed-table}
-use Rattle.nodes.specs.internal.Make.{Finds}
-use Rattle.nodes.proofs.Parting.{levels-length}
-use Rattle.nodes.proofs.Making.{made-same, made-found}
-use Rattle.nodes.proofs.Holding.{child-small, packed-new, packed-full}
+use Rattle.nodes.specs.internal.Make.{MakingNode, nodeFun}
 use Rattle.nodes.proofs.unique.make.Statement.{statement}
 use Rattle.nodes.proofs.unique.make.Tie as tie
 
 returns : tie.Need-returns
 returns c =
-    let c0 = c .before .before .before .before in
-    let a = c0 .args in
-    let pre = c0 .pre in
+    let c2 = c .before in
+    let c1 = c2 .before .before .before .before .before .before .before .before in
+    let a = c1 .before .before .before .before .before .before .before .args in
     let t = packed-table (a .packed .now) (a .high .now) (a .used) in
-    ((made-same t (a .v) (a .lo) (a .hi) (pre .0) (c .if1 .taken), pre .1), refl)
+    let x = c1 .make-node in
+    subst (MakingNode t (x .last .0) (x .last .1 .0) (a .work .now) (x .last .1 .1 .0) (nodeFun t (a .v) (a .lo) (a .hi))) (c2 .i .given .1) (x .ensures)
 
-find-requires : tie.Need-find-requires
-find-requires c κs =
-    let c2 = c .before .before .before in
-    let c0 = c2 .before .before .before .before .before .before in
-    let a = c0 .args in
-    let pre = c0 .pre in
-    (pre .0 .formed, (pre .1, (c2 .head-of .ensures, child-small (a .packed .now) (a .high .now) (a .used) (a .v) (a .lo) (a .hi) (pre .0))))
-
-mul-packed : tie.Need-mul-packed
-mul-packed c = omega arith
-
-add-packed : tie.Need-add-packed
-add-packed c =
-    let c0 = c .before .before .before .before .before .before .before .before .before .before .before .before .before in
-    let a = c0 .args in
-    omega (arith, child-small (a .packed .now) (a .high .now) (a .used) (a .v) (a .lo) (a .hi) (c0 .pre .0))
-
-slice-write-high : tie.Need-slice-write-high
-slice-write-high c =
-    let c0 = c .before .before .before .before .before .before .before .before .before .before .before .before .before in
-    let a = c0 .args in
-    let wf = c0 .pre .0 .formed in
-    omega (arith, wf .high-length, levels-length (a .packed .now), c .if2 .taken)
+add-t18 : tie.Need-add-t18
+add-t18 c =
+    let c0 = c .before .before .before .before .before .before .before .before .before .before .before .before .before .before .before .before in
+    let formed = c0 .pre .0 .formed in
+    omega (arith, formed .room, formed .most)
 
 returns-2 : tie.Need-returns-2
 returns-2 c =
-    let c3 = c .before in
-    let c2 = c3 .before .before in
-    let c0 = c2 .before .before .before .before .before .before .before .before .before .before in
-    let a = c0 .args in
-    let pre = c0 .pre in
+    let c2 = c .before in
+    let c1 = c2 .before .before .before .before .before .before .before .before in
+    let a = c1 .before .before .before .before .before .before .before .args in
     let t = packed-table (a .packed .now) (a .high .now) (a .used) in
-    ((made-found t (a .v) (a .lo) (a .hi) (pre .0) _ (subst (Finds t (a .v) (a .lo) (a .hi)) (c3 .i .given .1) (c2 .find .ensures)), pre .1), refl)
+    let x = c1 .make-node in
+    let m = subst (MakingNode t (x .last .0) (x .last .1 .0) (a .work .now) (x .last .1 .1 .0) (nodeFun t (a .v) (a .lo) (a .hi))) (c2 .i2 .given .1) (x .ensures) in
+    ((m .0 .0 .made, m .0 .1), m .1)
 
 returns-3 : tie.Need-returns-3
 returns-3 c =
-    let c6 = c .before .before in
-    let c5 = c6 .before .before in
-    let c4 = c5 .before in
-    let c3 = c4 .before .before in
-    let c2 = c3 .before .before .before .before .before .before in
-    let c0 = c2 .before .before .before .before in
-    let a = c0 .args in
-    let pre = c0 .pre in
+    let c1 = c .before .before .before .before .before .before .before .before in
+    let a = c1 .before .before .before .before .before .before .before .args in
     let t = packed-table (a .packed .now) (a .high .now) (a .used) in
-    packed-new (a .packed .now) (a .high .now) (a .used) (a .v) (a .lo) (a .hi) (pre .0) (c2 .if1 .left) (subst (Finds t (a .v) (a .lo) (a .hi)) (c4 .enum-told .given .1) (c3 .find .ensures))
-    (a .work .now) _ (c5 .if2 .taken) (pre .1) (c6 .link .ensures _ _ _ (c3 .before .before .before .before .head-of .ensures))
-
-returns-4 : tie.Need-returns-4
-returns-4 c =
-    let c4 = c .before in
-    let c3 = c4 .before .before in
-    let c2 = c3 .before .before .before .before .before .before in
-    let c0 = c2 .before .before .before .before in
-    let a = c0 .args in
-    let pre = c0 .pre in
-    let t = packed-table (a .packed .now) (a .high .now) (a .used) in
-    (packed-full (a .packed .now) (a .high .now) (a .used) (a .v) (a .lo) (a .hi) (pre .0) (c2 .if1 .left) (subst (Finds t (a .v) (a .lo) (a .hi)) (c4 .enum-told .given .1) (c3 .find .ensures)) (omega (arith, c .if2 .left)), refl)
+    let x = c1 .make-node in
+    subst (MakingNode t (x .last .0) (x .last .1 .0) (a .work .now) (x .last .1 .1 .0) (nodeFun t (a .v) (a .lo) (a .hi))) (c .enum-told .given .1) (x .ensures)
 
 pub make-spec : {M : Type 1} → statement M
 make-spec =
     tie.close
     (tie.spec
+    (λ c κs. search needs)
+    (λ c. search needs)
+    (λ c. search needs)
+    add-t18
+    (λ c. search needs)
+    (λ c. search needs)
+    (λ c. search needs)
+    (λ c. search needs)
     returns
-    (λ c κs. search needs)
-    find-requires
-    (λ c. search needs)
-    (λ c. search needs)
-    mul-packed
-    add-packed
-    (λ c. search needs)
-    (λ c. search needs)
-    (λ c. search needs)
-    slice-write-high
-    (λ c κs. search needs)
-    (λ c. search needs)
     (λ c. search needs)
     (λ c. search needs)
     (λ c. search needs)
@@ -101,8 +60,4 @@ make-spec =
     (λ c. search needs)
     (λ c. search needs)
     (λ c. search needs)
-    returns-3
-    (λ c. search needs)
-    (λ c. search needs)
-    (λ c. search needs)
-    returns-4)
+    returns-3)
