@@ -1,7 +1,8 @@
 /* The same pairs through the library and through BuDDy, both verdicts from one call: CPU seconds and their ratio.
    bench warm LEFT RIGHT TABLE: nine turns in one process, the medians. One line, tab-separated: strong verdict and rounds, weak verdict and
        rounds, nodes, seconds(library) seconds(BuDDy, each cache) ratio(to the faster BuDDy) nodes/s.
-   bench agree LEFT RIGHT TABLE: each side once; verdicts, rounds and nodes as above, or why they are none.
+   bench agree LEFT RIGHT TABLE: each side once; verdicts and rounds as above and nodes up to the relations, up to the weak answers and of the whole
+       list, or why there are no verdicts; with refusal 8 the nodes that fit, and "-" for others.
    bench SIDE LEFT RIGHT TABLE, with SIDE library, small or large: one call in a new process, with what it allocates: its seconds. */
 #include "../include/seipolku.h"
 #include "buddy.h"
@@ -22,7 +23,7 @@ static int cache_of(int k, size_t table) { return (int)(k ? 2 * table : table / 
 typedef struct { unsigned char *text; size_t len; } Text;
 typedef struct { Text left, right; size_t table; } Pair;
 typedef struct { uint8_t *level; uint32_t *low, *high, *work; } Table;
-typedef struct { Verdicts of; uint64_t nodes; } Result;
+typedef struct { Verdicts of; Nodes nodes; } Result;
 
 static double now(void) {
     struct timespec t;
@@ -54,32 +55,50 @@ static Verdict verdict_of(uint64_t verdict, uint64_t rounds) {
     return (Verdict){verdict == SEIPOLKU_VERDICT_EQUAL, rounds};
 }
 
+/* Refusal 8's nodes have a dash for a number that is not below the table's room. */
+static void print_refusal(const uint64_t *answer, size_t table) {
+    printf("refused %lu", (unsigned long)answer[SEIPOLKU_REFUSAL_NUMBER]);
+    const uint64_t nodes[] = {answer[SEIPOLKU_NODES_UP_TO_RELATIONS], answer[SEIPOLKU_NODES_UP_TO_ANSWERS], answer[SEIPOLKU_NODES]};
+    for (int k = 0; k < 3 && answer[SEIPOLKU_REFUSAL_NUMBER] == SEIPOLKU_FULL; k++) {
+        if (nodes[k] < table - 2) printf("\t%lu", (unsigned long)nodes[k]);
+        else printf("\t-");
+    }
+    printf("\n");
+}
+
 static Result by_library(const Pair *p, Table t) {
     uint64_t answer[SEIPOLKU_ANSWER_WORDS];
     uint64_t kind = seipolku_compare(p->left.text, p->left.len, p->right.text, p->right.len, 1000000, t.level, p->table, t.low, p->table, t.high, p->table,
                                      t.work, 4 * p->table, answer, SEIPOLKU_ANSWER_WORDS);
     if (kind != SEIPOLKU_ANSWERED) {
-        printf("refused %lu\n", (unsigned long)answer[SEIPOLKU_REFUSAL_NUMBER]);
+        print_refusal(answer, p->table);
         exit(1);
     }
     Verdicts of = {verdict_of(answer[SEIPOLKU_STRONG_VERDICT], answer[SEIPOLKU_STRONG_ROUNDS]),
                    verdict_of(answer[SEIPOLKU_WEAK_VERDICT], answer[SEIPOLKU_WEAK_ROUNDS])};
-    return (Result){of, answer[SEIPOLKU_NODES]};
+    return (Result){of, {answer[SEIPOLKU_NODES_UP_TO_RELATIONS], answer[SEIPOLKU_NODES_UP_TO_ANSWERS], answer[SEIPOLKU_NODES]}};
 }
 
 static Result by_buddy(const Pair *p) {
-    return (Result){buddy_compare(p->left.text, p->left.len, p->right.text, p->right.len), 0};
+    return (Result){.of = buddy_compare(p->left.text, p->left.len, p->right.text, p->right.len)};
+}
+
+static void print_verdicts(Verdicts of) {
+    const char *const word[] = {"different", "equal"};
+    printf("%s\t%llu\t%s\t%llu", word[of.strong.equal], of.strong.rounds, word[of.weak.equal], of.weak.rounds);
 }
 
 static void print_result(Result r) {
-    const char *const word[] = {"different", "equal"};
-    printf("%s\t%llu\t%s\t%llu\t%lu", word[r.of.strong.equal], r.of.strong.rounds, word[r.of.weak.equal], r.of.weak.rounds, (unsigned long)r.nodes);
+    print_verdicts(r.of);
+    printf("\t%lu\t%lu\t%lu", r.nodes.relations, r.nodes.answers, r.nodes.whole);
 }
 
 static int same(Verdict a, Verdict b) { return a.equal == b.equal && a.rounds == b.rounds; }
 
+static int same_nodes(Nodes a, Nodes b) { return a.relations == b.relations && a.answers == b.answers && a.whole == b.whole; }
+
 static void must_agree(Result a, Result b) {
-    if (same(a.of.strong, b.of.strong) && same(a.of.weak, b.of.weak) && a.nodes == b.nodes) return;
+    if (same(a.of.strong, b.of.strong) && same(a.of.weak, b.of.weak) && same_nodes(a.nodes, b.nodes)) return;
     printf("DISAGREE: library ");
     print_result(a);
     printf(", BuDDy ");
@@ -93,7 +112,7 @@ static double buddy_turn(const Pair *p, int cache, Result ours) {
     double a = now();
     Result r = by_buddy(p);
     double seconds = now() - a;
-    r.nodes = (uint64_t)buddy_nodes();
+    r.nodes = buddy_nodes();
     buddy_end();
     must_agree(ours, r);
     return seconds;
@@ -113,7 +132,7 @@ static int warm(const Pair *p) {
     double ours[TURNS], theirs[CACHES][TURNS], buddy[CACHES];
     Table t = new_table(p->table);
     memset(t.level, 0xA5, p->table), memset(t.low, 0xA5, 4 * p->table), memset(t.high, 0xA5, 4 * p->table), memset(t.work, 0xA5, 16 * p->table);
-    Result r = {.nodes = 0};
+    Result r = {.nodes = {0, 0, 0}};
     for (int turn = 0; turn < TURNS; turn++) {
         double a = now();
         r = by_library(p, t);
@@ -122,8 +141,9 @@ static int warm(const Pair *p) {
     }
     double mine = median(ours);
     for (int k = 0; k < CACHES; k++) buddy[k] = median(theirs[k]);
-    print_result(r);
-    printf("\t%.5f\t%.5f\t%.5f\t%.2f\t%.0f\n", mine, buddy[0], buddy[1], mine / (buddy[0] < buddy[1] ? buddy[0] : buddy[1]), (double)r.nodes / mine);
+    print_verdicts(r.of);
+    printf("\t%lu\t%.5f\t%.5f\t%.5f\t%.2f\t%.0f\n", r.nodes.whole, mine, buddy[0], buddy[1], mine / (buddy[0] < buddy[1] ? buddy[0] : buddy[1]),
+           (double)r.nodes.whole / mine);
     return 0;
 }
 

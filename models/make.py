@@ -22,6 +22,17 @@ SMALL_TABLE = 1 << 16    # a pair whose list fits it gets further lines in vecto
 NODES = 1 << 24    # the oracle's room for a list that fits no table
 FULL = "refused 8 2 0"
 MAX_BITS = 24
+# pairs, by operators, with a line for each table about one of the three numbers of nodes: one entry too short, just long enough, one longer
+STAGED = {
+    ("buffer_chain2", "buffer_places2"),             # 02, 03, 04
+    ("shuttle_one", "shuttle_one_service"),          # 02, 03
+    ("lotos_two_terms_hidden", "lotos_exit"),        # 04, 05, 06
+    ("lotos_exit_joined", "lotos_exit"),             # 06
+    ("enabled3", "enabled3_service"),                # 07
+    ("shuttle_start", "shuttle_start_service"),      # 05, 06, 07
+    ("disabled3", "disabled3_service"),              # 08
+    ("shuttle_stop_parks", "shuttle_stop_parks_service"),    # 08
+}
 
 names = []       # lines of NAMES.md
 pairs = []       # (left, right, strong verdict, weak verdict, whether the oracle can enumerate the pairs of states)
@@ -1350,23 +1361,29 @@ def oracle(*words, text=""):
 
 
 def parts(given):
-    """Strong verdict and rounds, weak verdict and rounds, nodes: of an answer `strong .. | weak .. | ..`."""
+    """Strong verdict and rounds, weak verdict and rounds, three numbers of nodes: of an answer `strong .. | weak .. | ..`."""
     strong, weak, nodes = given.split(" | ")
-    return [*strong.split()[1:], *weak.split()[1:], nodes]
+    return [*strong.split()[1:], *weak.split()[1:], *nodes.split()]
 
 
 def answer(left, right, explicit):
-    """Verdicts and rounds by explicit pairs, or, where these are too many, by the list with room for NODES; and nodes,
-    `-` where the list fits no table."""
+    """Verdicts and rounds by explicit pairs, or, where these are too many, by the list with room for NODES; and nodes up
+    to the relations, up to the weak answers, and of the whole list, `-` where they fit no table."""
     files = path(left), path(right)
     by_pairs = [oracle("verdict", *files, mode, LIMIT) for mode in (0, 1)]
     assert [explicit] * 2 == [found != "too large to enumerate" for found in by_pairs], (left, right, by_pairs)
     found = " ".join(by_pairs).split() if explicit else parts(oracle("list", *files, LIMIT, NODES))[:4]
     listed = oracle("compare", *files, LIMIT, LARGEST_TABLE)
-    if listed == FULL:
-        return found + ["-"]
+    if listed.startswith(FULL):
+        return found + ["-" if int(number) == LARGEST_TABLE - 2 else number for number in listed.split(" | ")[1].split()]
     assert parts(listed)[:4] == found, (left, right, found, listed)
     return parts(listed)
+
+
+def full(nodes, length):
+    """Refusal 8 on a table of this length: a number above its room is given as the room."""
+    room = length - 2
+    return f"{FULL} | " + " ".join(str(room if number == "-" else min(int(number), room)) for number in nodes)
 
 
 def vector(left, text, right, length, result, limit=LIMIT):
@@ -1376,25 +1393,50 @@ def vector(left, text, right, length, result, limit=LIMIT):
     return "\t".join([name, *texts, str(limit), str(length), result])
 
 
+def lengths_about(number):
+    """Tables with room for so many nodes, for one less and for one more."""
+    return [int(number) + more for more in (1, 2, 3)]
+
+
+def lengths(left, right, nodes):
+    """The program's table and the largest one. If the list is small, also the table that it just fits and one entry less; of
+    some pairs all tables about each number of nodes."""
+    found = [PROGRAM_TABLE, LARGEST_TABLE]
+    if small(nodes):
+        found += lengths_about(nodes[2])[:2]
+    if (left, right) in STAGED:
+        found += [length for number in nodes for length in lengths_about(number)]
+    return dict.fromkeys(found)
+
+
+def small(nodes):
+    return nodes[2] != "-" and int(nodes[2]) + 2 <= SMALL_TABLE
+
+
 def vectors(left, right, found):
-    """The pair as vectors lines: with the program's table and with the largest one. If its list is small, also with the
-    table that it just fits and with one entry less, and by the limits one below each verdict's rounds."""
+    """The pair as vectors lines: with these tables; if its list is small, also by the limits one below each verdict's rounds,
+    and of some pairs with tables about the whole list by the limits 0 and 1."""
     with open(path(left)) as file:
         text = file.read()
-    strong, rounds, weak, weak_rounds, nodes = found
-    given = f"strong {strong} {rounds} | weak {weak} {weak_rounds} | {nodes}"
-    needed = NODES if nodes == "-" else int(nodes) + 2
-    small = needed <= SMALL_TABLE
-    for length in (PROGRAM_TABLE, LARGEST_TABLE) + ((needed - 1, needed) if small else ()):
-        yield vector(left, text, right, length, given if needed <= length else FULL)
+    strong, rounds, weak, weak_rounds, *nodes = found
+    given = f"strong {strong} {rounds} | weak {weak} {weak_rounds} | {' '.join(nodes)}"
+    for length in lengths(left, right, nodes):
+        fits = nodes[2] != "-" and int(nodes[2]) + 2 <= length
+        yield vector(left, text, right, length, given if fits else full(nodes, length))
+
+    def by_limit(limit, length):
+        return oracle("compare", path(left), path(right), limit, length)
+
     first, last = sorted((int(rounds), int(weak_rounds)))
-    for limit in sorted({first - 1, last - 1}) if small else ():
-        by_limit = oracle("compare", path(left), path(right), limit, LARGEST_TABLE)
-        yield vector(left, text, right, LARGEST_TABLE, by_limit, limit)
+    for limit in sorted({first - 1, last - 1}) if small(nodes) else ():
+        yield vector(left, text, right, LARGEST_TABLE, by_limit(limit, LARGEST_TABLE), limit)
+    for limit in (0, 1) if (left, right) in STAGED else ():
+        for length in lengths_about(by_limit(limit, LARGEST_TABLE).split()[-1]):
+            yield vector(left, text, right, length, by_limit(limit, length), limit)
 
 
 def expected():
-    rows = ["# left\tright\tstrong\trounds\tweak\trounds\tnodes"]
+    rows = ["# left\tright\tstrong\trounds\tweak\trounds\trelations\tanswers\tnodes"]
     lines = ["# name\tleft\tright\tlimit\tL\tanswer"]
     for left, right, strong, weak, explicit in pairs:
         found = answer(left, right, explicit)

@@ -3,7 +3,7 @@
 use std::fmt;
 
 use crate::bisim::{self, Mode, Outcome};
-use crate::list::{self, Outcomes, Trace};
+use crate::list::{self, Nodes, Outcomes, Trace};
 use crate::model::Model;
 use crate::reader::{self, Refusal};
 use crate::steps::{self, Step};
@@ -16,20 +16,18 @@ pub const WORDS: usize = 12;
 #[derive(Clone, Copy, Debug, PartialEq, Eq)]
 pub enum Answer {
     /// A verdict for each mode, or none by the limit, and the nodes of the joined list.
-    Given {
-        strong: Outcome,
-        weak: Outcome,
-        nodes: usize,
-    },
-    Refused {
-        number: u8,
-        side: u8,
-        line: usize,
-    },
+    Given { strong: Outcome, weak: Outcome, nodes: Nodes },
+    /// Refusal 8: the joined list does not fit. Each number is at most the table's room.
+    Full { nodes: Nodes },
+    /// Refusals 1 to 7.
+    Refused { number: u8, side: u8, line: usize },
 }
 
 /// What stands in the place of a verdict that does not fall by the limit.
 const UNDECIDED: &str = "refused 9 2 0";
+
+/// What stands before the numbers of refusal 8, and alone in the program's lines.
+const FULL: &str = "refused 8 2 0";
 
 /// A verdict's place in an answer.
 fn place(outcome: Outcome) -> String {
@@ -47,18 +45,22 @@ fn read_place(words: &str) -> Option<Outcome> {
     }
 }
 
-fn read_given(words: &str) -> Option<Answer> {
-    let places: Vec<&str> = words.split(" | ").collect();
-    let &[strong, weak, nodes] = places.as_slice() else { return None };
+fn read_nodes(words: &str) -> Option<Nodes> {
+    let numbers: Vec<usize> = words.split(' ').map(|number| number.parse().ok()).collect::<Option<_>>()?;
+    let &[relations, answers, whole] = numbers.as_slice() else { return None };
+    Some(Nodes { relations, answers, whole })
+}
+
+fn read_given([strong, weak, nodes]: [&str; 3]) -> Option<Answer> {
     let strong = read_place(strong.strip_prefix("strong ")?)?;
     let weak = read_place(weak.strip_prefix("weak ")?)?;
-    Some(Answer::Given { strong, weak, nodes: nodes.parse().ok()? })
+    Some(Answer::Given { strong, weak, nodes: read_nodes(nodes)? })
 }
 
 fn read_refused(words: &str) -> Option<Answer> {
     let numbers: Vec<&str> = words.strip_prefix("refused ")?.split(' ').collect();
     let &[number, side, line] = numbers.as_slice() else { return None };
-    let number = number.parse().ok().filter(|number| (1..=8).contains(number))?;
+    let number = number.parse().ok().filter(|number| (1..=7).contains(number))?;
     let side = side.parse().ok().filter(|side| (0..=2).contains(side))?;
     Some(Answer::Refused { number, side, line: line.parse().ok()? })
 }
@@ -67,7 +69,13 @@ impl std::str::FromStr for Answer {
     type Err = ();
 
     fn from_str(words: &str) -> Result<Answer, ()> {
-        read_given(words).or_else(|| read_refused(words)).ok_or(())
+        let answer = match *words.split(" | ").collect::<Vec<_>>() {
+            [strong, weak, nodes] => read_given([strong, weak, nodes]),
+            [FULL, nodes] => read_nodes(nodes).map(|nodes| Answer::Full { nodes }),
+            [refused] => read_refused(refused),
+            _ => None,
+        };
+        answer.ok_or(())
     }
 }
 
@@ -77,14 +85,22 @@ impl fmt::Display for Answer {
             Answer::Given { strong, weak, nodes } => {
                 write!(f, "strong {} | weak {} | {nodes}", place(strong), place(weak))
             }
+            Answer::Full { nodes } => write!(f, "{FULL} | {nodes}"),
             Answer::Refused { number, side, line } => write!(f, "refused {number} {side} {line}"),
         }
     }
 }
 
 impl Answer {
-    fn new(Outcomes { strong, weak }: Outcomes, nodes: usize) -> Answer {
+    /// Of a list that there is room for.
+    fn given(Outcomes { strong, weak }: Outcomes, nodes: Nodes) -> Answer {
         Answer::Given { strong, weak, nodes }
+    }
+
+    /// Of a list that there is no room for: a number above the room is given as the room.
+    fn full(Nodes { relations, answers, whole }: Nodes, room: usize) -> Answer {
+        let [relations, answers, whole] = [relations, answers, whole].map(|number| number.min(room));
+        Answer::Full { nodes: Nodes { relations, answers, whole } }
     }
 
     /// What the program prints of each mode, strong first, after the mode's name.
@@ -92,15 +108,15 @@ impl Answer {
         match *self {
             Answer::Given { strong, weak, nodes } => [strong, weak].map(|outcome| match outcome {
                 Outcome::Undecided => place(outcome),
-                verdict => format!("{verdict} {nodes}"),
+                verdict => format!("{verdict} {}", nodes.whole),
             }),
+            Answer::Full { .. } => [FULL, FULL].map(String::from),
             refused => [refused.to_string(), refused.to_string()],
         }
     }
 }
 
 pub const UNFIT: Answer = Answer::Refused { number: 7, side: 2, line: 0 };
-const FULL: Answer = Answer::Refused { number: 8, side: 2, line: 0 };
 
 /// An answer, and whether the explicit states gave its verdicts too.
 #[derive(Clone, Copy, Debug, PartialEq, Eq)]
@@ -124,7 +140,7 @@ pub fn known(left: &[u8], right: &[u8], room: usize) -> Known {
         Err(answer) => return Known::Refused(answer),
     };
     let trace = list::trace(&left, &right, room);
-    let last = trace.nodes.len().saturating_sub(1) as u64;
+    let last = trace.whole.len().saturating_sub(1) as u64;
     if let Some(by_pairs) = decide_both(&left, &right, if trace.full { last } else { u64::MAX }) {
         assert_eq!(by_pairs, trace.outcomes, "explicit pairs and list disagree");
     }
@@ -135,17 +151,12 @@ impl Trace {
     /// The answer by this limit on a table of this length, which is at least 2;
     /// if the list ended without room, it is not longer than that room and 2.
     pub fn answer(&self, limit: u64, length: usize) -> Answer {
-        let last = self.nodes.len() as u64;
-        let nodes = match self.nodes.get(limit.min(last) as usize) {
-            Some(&nodes) => nodes,
-            None if self.full => return FULL,
-            None => self.nodes[last as usize - 1],
-        };
-        if nodes > length - 2 {
-            return FULL;
+        let nodes = self.by(limit);
+        if nodes.whole > length - 2 {
+            return Answer::full(nodes, length - 2);
         }
         let Outcomes { strong, weak } = self.outcomes;
-        Answer::new(Outcomes { strong: strong.by(limit), weak: weak.by(limit) }, nodes)
+        Answer::given(Outcomes { strong: strong.by(limit), weak: weak.by(limit) }, nodes)
     }
 }
 
@@ -192,14 +203,15 @@ fn read_both(left: &[u8], right: &[u8]) -> Result<(Model, Model), Answer> {
 /// Verdicts and rounds of the explicit pairs if there are few enough, else of the list.
 /// Where both are known they have to be the same.
 pub fn compare_models(left: &Model, right: &Model, limit: u64, room: usize) -> Checked {
-    let Ok((by_list, nodes)) = list::evaluate(left, right, limit, room) else {
-        return Checked { answer: FULL, explicit: false };
+    let (by_list, nodes) = match list::evaluate(left, right, limit, room) {
+        Ok(evaluated) => evaluated,
+        Err(nodes) => return Checked { answer: Answer::full(nodes, room), explicit: false },
     };
     let by_pairs = decide_both(left, right, limit);
     if let Some(outcomes) = by_pairs {
         assert_eq!(outcomes, by_list, "explicit pairs and list disagree");
     }
-    Checked { answer: Answer::new(by_pairs.unwrap_or(by_list), nodes), explicit: by_pairs.is_some() }
+    Checked { answer: Answer::given(by_pairs.unwrap_or(by_list), nodes), explicit: by_pairs.is_some() }
 }
 
 /// The explicit verdicts of both modes; none if the models are too large.

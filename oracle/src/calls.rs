@@ -2,6 +2,7 @@
 
 use crate::answer::{known, table_fits, Answer, Known, MAX_TABLE, UNFIT, WORDS};
 use crate::generate::{chain_pair, malformed, pair, sequenced_pair, text, wide_pair, Frame};
+use crate::list::Nodes;
 use crate::random::Random;
 use crate::reader::read;
 
@@ -51,18 +52,22 @@ impl Pair {
 
     /// Nodes needed up to both verdicts, or all the room if they do not fit into it.
     pub fn needed(&self) -> usize {
-        match &self.known {
-            Known::Traced(trace) if trace.full => ROOM,
-            Known::Traced(trace) => trace.nodes.last().copied().unwrap_or(0),
-            Known::Refused(_) => 0,
-        }
+        self.stages(u64::MAX)[2]
     }
 
     /// Nodes needed by this limit, or by the last one that there is room for.
     fn needed_by(&self, limit: u64) -> usize {
         let Known::Traced(trace) = &self.known else { return 0 };
-        let last = trace.nodes.len().saturating_sub(1);
-        trace.nodes.get(limit.min(last as u64) as usize).copied().unwrap_or(0)
+        let last = trace.whole.len().saturating_sub(1);
+        trace.whole.get(limit.min(last as u64) as usize).copied().unwrap_or(0)
+    }
+
+    /// Nodes needed by this limit, up to the relations, up to the weak answers and as a whole; all the room where they do not fit
+    /// into it.
+    fn stages(&self, limit: u64) -> [usize; 3] {
+        let Known::Traced(trace) = &self.known else { return [0; 3] };
+        let Nodes { relations, answers, whole } = trace.by(limit);
+        [relations, answers, whole].map(|number| number.min(ROOM))
     }
 
     /// Whether the list was evaluated up to both verdicts.
@@ -74,7 +79,7 @@ impl Pair {
     /// no verdict.
     fn early_limit(&self, random: &mut Random) -> u64 {
         let Known::Traced(trace) = &self.known else { return 0 };
-        let any = random.below(trace.nodes.len() + 1) as u64;
+        let any = random.below(trace.whole.len() + 1) as u64;
         let first = trace.outcomes.strong.rounds().min(trace.outcomes.weak.rounds());
         random.pick(&[any, first])
     }
@@ -139,7 +144,7 @@ fn early(random: &mut Random, pair: &Pair) -> Call {
     Call { limit, table: [pair.needed_by(limit) + 2; 3], ..fitting(random, pair) }
 }
 
-/// Fitting and just not fitting, a limit at an edge, and one call more of any sort.
+/// Fitting and just not fitting, a limit at an edge, one call more of any sort, and a table at the end of each stage.
 pub fn calls(random: &mut Random, pair: &Pair) -> Vec<Call> {
     let length = pair.needed() + 2;
     let fits = fitting(random, pair);
@@ -148,7 +153,20 @@ pub fn calls(random: &mut Random, pair: &Pair) -> Vec<Call> {
     let limit = random.pick(&[0, 1, 2, early, early, pair.product(), u64::MAX]);
     let limited = Call { limit, work: work(random, length), ..fits.clone() };
     let any = other(random, pair, &limited);
-    vec![fits, full, limited, any]
+    let mut calls = vec![fits, full, limited, any];
+    calls.extend(at_stages(random, pair));
+    calls
+}
+
+/// For each of the three numbers a table with room for so many nodes, one less or one more, all by one limit.
+fn at_stages(random: &mut Random, pair: &Pair) -> [Call; 3] {
+    let early = pair.early_limit(random);
+    let limit = random.pick(&[0, 1, early, u64::MAX, u64::MAX]);
+    let most = if pair.has_verdicts() { MAX_TABLE } else { ROOM + 2 };
+    pair.stages(limit).map(|number| {
+        let length = (number + 1 + random.below(3)).min(most);
+        Call { limit, table: [length; 3], work: work(random, length), words: WORDS }
+    })
 }
 
 /// The length of the work slice: none, one, odd and large.

@@ -411,12 +411,12 @@ fn tighten(random: &mut Random, case: &mut Case) {
     let Answer::Given { strong, weak, nodes } = case.run().answer else { return };
     let rounds = random.pick(&[strong, weak]).rounds();
     match random.below(6) {
-        0 => case.length = nodes + 2,
-        1 => case.length = (nodes + 1).max(2),
+        0 => case.length = nodes.whole + 2,
+        1 => case.length = (nodes.whole + 1).max(2),
         2 => case.limit = rounds,
         3 => case.limit = rounds - 1,
         4 => case.limit = 0,
-        _ => case.length = 2 + random.below(nodes + 2),
+        _ => case.length = 2 + random.below(nodes.whole + 2),
     }
 }
 

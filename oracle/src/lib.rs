@@ -1,7 +1,7 @@
-//! An explicit-state program for comparing models, written from document 01 and document 02's points 1, 2, 4 and 5 alone.
+//! An explicit-state program for comparing models, written from document 01 and document 02's points 1, 2 and 4 to 6 alone.
 //!
 //! The verdicts come from an iteration over explicit pairs of states (`bisim`).
-//! The node count comes from evaluating the joined list of functions (`list`).
+//! The node counts come from evaluating the joined list of functions (`list`).
 
 pub mod answer;
 pub mod bisim;

@@ -158,7 +158,7 @@ mod tests {
     #[test]
     fn comparisons_are_read_from_their_arguments() {
         let arguments = "left=000101/\tright=000101/\tlimit=1000000\tL=14";
-        let answer = "strong equal 1 | weak equal 1 | 12";
+        let answer = "strong equal 1 | weak equal 1 | 0 6 12";
         let rerun_as =
             |request: &str, call: &str| rerun(&format!("{request}\tP1\t{call}\t{arguments}\t{answer}"));
         let rerun = rerun_as("2", "compare").expect("well formed");

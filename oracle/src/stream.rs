@@ -272,18 +272,24 @@ fn malformed(number: u64) -> io::Error {
     io::Error::other(format!("line {number} is malformed"))
 }
 
-/// What a call returns, and five words: each mode's verdict with its rounds, strong before weak, and the nodes; or a refusal's
-/// number, side and line.
-fn expected(answer: Option<Answer>) -> [u64; 6] {
-    match answer {
+/// What a call returns, and seven words: each mode's verdict with its rounds, strong before weak, or a refusal's number, side and
+/// line; then the nodes as the answer's words have them, of the whole list first, 0 where there are none.
+fn expected(answer: Option<Answer>) -> [u64; 8] {
+    let (returned, first, nodes) = match answer {
         Some(Answer::Given { strong, weak, nodes }) => {
-            [ANSWERED, verdict(strong), strong.rounds(), verdict(weak), weak.rounds(), nodes as u64]
+            (ANSWERED, [verdict(strong), strong.rounds(), verdict(weak), weak.rounds()], Some(nodes))
         }
+        Some(Answer::Full { nodes }) => (REFUSED, [8, 2, 0, 0], Some(nodes)),
         Some(Answer::Refused { number, side, line }) => {
-            [REFUSED, number.into(), side.into(), line as u64, 0, 0]
+            (REFUSED, [number.into(), side.into(), line as u64, 0], None)
         }
-        None => [SHORT, 0, 0, 0, 0, 0],
-    }
+        None => (SHORT, [0; 4], None),
+    };
+    let nodes = nodes.map_or([0; 3], |nodes| [nodes.whole, nodes.relations, nodes.answers]);
+    let mut words = [returned; 8];
+    words[1..5].copy_from_slice(&first);
+    words[5..].copy_from_slice(&nodes.map(|number| number as u64));
+    words
 }
 
 fn verdict(outcome: Outcome) -> u64 {
@@ -297,8 +303,8 @@ fn verdict(outcome: Outcome) -> u64 {
 /// At most so many entries of a table of this length are used, and at least one is.
 fn entries(answer: Answer, length: usize) -> usize {
     match answer {
-        Answer::Given { nodes, .. } => nodes + 2,
-        Answer::Refused { number: 8, .. } => length,
+        Answer::Given { nodes, .. } => nodes.whole + 2,
+        Answer::Full { .. } => length,
         Answer::Refused { .. } => length.clamp(1, 100),
     }
 }

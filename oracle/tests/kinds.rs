@@ -7,6 +7,7 @@ use oracle::answer::{table_fits, Answer, Known, MAX_TABLE, WORDS};
 use oracle::bisim::Outcome;
 use oracle::calls::{any_pair, calls, sequenced as shown_sequences, shown, Call, Pair};
 use oracle::generate::{has_sequence, FORMER_BITS, WIDE};
+use oracle::list::Nodes;
 use oracle::lookup::{codes, last_level, look_up, Ask};
 use oracle::model::{Channels, Line, Model, Process, EXIT, EXIT_CHANNEL, MAX_BITS, MAX_USES, TAU};
 use oracle::random::Random;
@@ -351,7 +352,7 @@ fn many_rounds_and_large_lists_come_up() {
     let (mut rounds, mut nodes) = (0, 0);
     for (pair, _) in pairs() {
         if let Known::Traced(trace) = &pair.known {
-            rounds = rounds.max(trace.nodes.len());
+            rounds = rounds.max(trace.whole.len());
             nodes = nodes.max(pair.needed());
         }
     }
@@ -369,6 +370,7 @@ fn verdict(outcome: Outcome) -> &'static str {
 fn answer_sort(call: &Call, known: &Known) -> String {
     match call.expected(known) {
         None => format!("{} words", call.words),
+        Some(Answer::Full { .. }) => "8 2".to_string(),
         Some(Answer::Refused { number, side, .. }) => format!("{number} {side}"),
         Some(Answer::Given { strong, weak, .. }) => format!("{} and {}", verdict(strong), verdict(weak)),
     }
@@ -394,6 +396,25 @@ fn every_answer_comes_up() {
     assert!(VERDICTS.iter().all(|&sort| seen.contains(sort)), "{seen:?}");
     // Beside these 0 to 11 words, 1 to 6 on two sides, 7 and 8.
     assert_eq!(seen.len(), VERDICTS.len() + WORDS + 12 + 2, "{seen:?}");
+}
+
+/// Room for each of the three numbers of nodes, for one less and for one more, in many calls.
+#[test]
+fn tables_at_the_end_of_each_stage_come_up() {
+    let mut seen = [[0; 3]; 3];
+    for (pair, mut random) in pairs() {
+        let Known::Traced(trace) = &pair.known else { continue };
+        for call in calls(&mut random, pair) {
+            let Nodes { relations, answers, whole } = trace.by(call.limit);
+            for (number, seen) in [relations, answers, whole].into_iter().zip(&mut seen) {
+                let more = call.table[0].checked_sub(number.saturating_add(1));
+                if let Some(seen) = more.and_then(|more| seen.get_mut(more)) {
+                    *seen += 1;
+                }
+            }
+        }
+    }
+    assert!(seen.iter().flatten().all(|&calls| calls > CASES / 5), "{seen:?}");
 }
 
 /// Too few words are told before 7, whatever is wrong with the table.

@@ -1,4 +1,4 @@
-//! Rows P1 to P10 of document 01 and single points of its text and of document 02's points 4 and 5.
+//! Rows P1 to P10 of document 01 and single points of its text and of document 02's points 4 to 6.
 
 use oracle::answer::MAX_TABLE;
 use oracle::bisim::Mode;
@@ -40,56 +40,104 @@ const P8: (&str, &str) = ("000102000201/01050001", "000102000001");
 const P9: (&str, &str) = ("000102000201/0106000001", "000102000201");
 const P10: (&str, &str) = ("000102000201/0104000102", "000102000401");
 
-const FULL: &str = "refused 8 2 0";
+/// Refusal 8 where there is room for so many nodes, of a list that needs these by its stages.
+fn full(nodes: [usize; 3], room: usize) -> String {
+    let [relations, answers, whole] = nodes.map(|number| number.min(room));
+    format!("refused 8 2 0 | {relations} {answers} {whole}")
+}
 
-/// The answer of a row, on the shortest table that its list fits; one entry less gives 8.
-fn fits(row: (&str, &str), limit: u64, nodes: usize) -> String {
-    assert_eq!(answer_at(row, limit, nodes + 1), FULL);
-    let answer = answer_at(row, limit, nodes + 2);
+/// The answer of a row on the shortest table that its list fits. With room for each of its three numbers of nodes, one less and
+/// one more, there is this answer where all of the list fits, else 8.
+fn fits(row: (&str, &str), limit: u64, nodes: [usize; 3]) -> String {
+    let answer = answer_at(row, limit, nodes[2] + 2);
+    for room in nodes.into_iter().flat_map(|number| number.saturating_sub(1)..number + 2) {
+        let expected = if room < nodes[2] { full(nodes, room) } else { answer.clone() };
+        assert_eq!(answer_at(row, limit, room + 2), expected);
+    }
     assert_eq!(answer, answer_at(row, limit, 1 << 20));
     answer
 }
 
+const NO_VERDICTS: &str = "strong refused 9 2 0 | weak refused 9 2 0";
+
 #[test]
 fn p1_one_state() {
-    assert_eq!(answer(P1), "strong equal 1 | weak equal 1 | 12");
-    assert_eq!(answer_at(P1, LIMIT, 14), answer(P1));
-    assert_eq!(answer_at(P1, LIMIT, 13), FULL);
-    assert_eq!(answer_at(P1, LIMIT, 2), FULL);
+    assert_eq!(answer(P1), "strong equal 1 | weak equal 1 | 0 6 12");
+    assert_eq!(fits(P1, LIMIT, [0, 6, 12]), answer(P1));
+    assert_eq!(answer_at(P1, LIMIT, 13), "refused 8 2 0 | 0 6 11");
+    assert_eq!(answer_at(P1, LIMIT, 2), "refused 8 2 0 | 0 0 0");
+    assert_eq!(answer_at(P1, LIMIT, 1), "refused 7 2 0");
 }
 
 #[test]
 fn p2_and_p3_inner_step_first() {
-    assert_eq!(fits(P2, LIMIT, 956), "strong different 1 | weak equal 3 | 956");
+    assert_eq!(fits(P2, LIMIT, [62, 384, 956]), "strong different 1 | weak equal 3 | 62 384 956");
     let pairs = largest(&model(P2.0), &model(P2.1), Mode::Weak);
     assert_eq!(pairs, Some(vec![(0, 0), (0, 1), (1, 2)]));
 }
 
 #[test]
 fn p4_and_p5_choice_after_or_before() {
-    assert_eq!(fits(P4, LIMIT, 1633), "strong different 2 | weak different 2 | 1633");
-    assert_eq!(fits(P4, 2, 1633), "strong different 2 | weak different 2 | 1633");
-    assert!(answer_at(P4, 1, 4096).starts_with("strong refused 9 2 0 | weak refused 9 2 0 | "));
+    let both = "strong different 2 | weak different 2 | 133 783 1633";
+    assert_eq!(fits(P4, LIMIT, [133, 783, 1633]), both);
+    assert_eq!(fits(P4, 2, [133, 783, 1633]), both);
+    assert!(answer_at(P4, 1, 4096).starts_with(&format!("{NO_VERDICTS} | 133 783 ")));
 }
 
 #[test]
 fn p6_challenges_of_both_sides() {
-    assert_eq!(fits(P6, LIMIT, 1501), "strong different 2 | weak different 2 | 1501");
+    let answer = fits(P6, LIMIT, [106, 686, 1501]);
+    assert_eq!(answer, "strong different 2 | weak different 2 | 106 686 1501");
 }
 
 #[test]
 fn p7_to_p10_operators() {
-    assert_eq!(fits(P7, LIMIT, 574), "strong equal 2 | weak equal 1 | 574");
-    assert_eq!(fits(P8, LIMIT, 300), "strong equal 2 | weak equal 1 | 300");
-    assert_eq!(fits(P9, LIMIT, 649), "strong equal 2 | weak equal 2 | 649");
-    assert_eq!(fits(P10, LIMIT, 373), "strong equal 2 | weak equal 2 | 373");
+    assert_eq!(fits(P7, LIMIT, [101, 351, 574]), "strong equal 2 | weak equal 1 | 101 351 574");
+    assert_eq!(fits(P8, LIMIT, [60, 168, 300]), "strong equal 2 | weak equal 1 | 60 168 300");
+    assert_eq!(fits(P9, LIMIT, [74, 311, 649]), "strong equal 2 | weak equal 2 | 74 311 649");
+    assert_eq!(fits(P10, LIMIT, [48, 150, 373]), "strong equal 2 | weak equal 2 | 48 150 373");
 }
 
 #[test]
 fn limit_0_gives_no_verdict() {
-    // The weak answers are in the list all the same: 6 nodes of P1, and of P2 those of the request's line.
-    assert_eq!(fits(P1, 0, 6), "strong refused 9 2 0 | weak refused 9 2 0 | 6");
-    assert_eq!(fits(P2, 0, 385), "strong refused 9 2 0 | weak refused 9 2 0 | 385");
+    // The weak answers are in the list all the same; B₀ adds nothing to P1's, and one node to P2's.
+    assert_eq!(fits(P1, 0, [0, 6, 6]), format!("{NO_VERDICTS} | 0 6 6"));
+    assert_eq!(fits(P2, 0, [62, 384, 385]), format!("{NO_VERDICTS} | 62 384 385"));
+}
+
+#[test]
+fn the_limit_changes_the_third_number_alone() {
+    assert_eq!(fits(P2, 1, [62, 384, 670]), "strong different 1 | weak refused 9 2 0 | 62 384 670");
+    for (row, stages) in [(P4, "133 783"), (P6, "106 686"), (P7, "101 351"), (P9, "74 311")] {
+        for limit in 0..4 {
+            let answer = answer_at(row, limit, 4096);
+            assert!(answer.contains(&format!(" | {stages} ")), "{limit}: {answer}");
+        }
+    }
+}
+
+#[test]
+fn answers_are_read_back() {
+    let read = |words: &str| words.parse::<Answer>().map(|answer| answer.to_string());
+    for words in [
+        "strong equal 1 | weak equal 1 | 0 6 12",
+        "strong different 1 | weak refused 9 2 0 | 62 384 670",
+        "refused 8 2 0 | 61 61 61",
+        "refused 5 1 3",
+    ] {
+        assert_eq!(read(words).as_deref(), Ok(words));
+    }
+    for words in [
+        "strong equal 1 | weak equal 1 | 12",
+        "strong equal 1 | weak equal 1 | 0 6 12 0",
+        "strong equal 1 | weak equal 1",
+        "refused 8 2 0",
+        "refused 8 2 0 | 61",
+        "refused 5 1 3 | 0 0 0",
+        "refused 9 2 0",
+    ] {
+        assert_eq!(read(words), Err(()), "{words}");
+    }
 }
 
 #[test]
@@ -255,8 +303,8 @@ fn exits_of_nested_operators() {
 #[test]
 fn exit_is_visible() {
     let later = "000103000001013E02";
-    assert_eq!(answer((later, EXITS)), "strong different 1 | weak equal 3 | 1019");
-    assert_eq!(answer((EXITS, "000101")), "strong different 1 | weak different 1 | 119");
+    assert_eq!(answer((later, EXITS)), "strong different 1 | weak equal 3 | 66 388 1019");
+    assert_eq!(answer((EXITS, "000101")), "strong different 1 | weak different 1 | 21 76 119");
     // Neither τ nor an action of a channel stands for it.
     let others = (2..=61).chain([TAU]);
     for other in others.map(|action| format!("00010200{action:02X}01")) {

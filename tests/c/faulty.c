@@ -129,6 +129,7 @@ static void mode_fault(uint64_t *answer) {
         given[0] = UNDECIDED, given[ROUNDS] = given[ROOT] = 0;
     }
     if (fault("rounds of the limit beside 9") && !fell(weak)) weak[ROUNDS]++;
+    if (fault("no stages beside 9") && !fell(weak)) answer[RELATIONS] = answer[ANSWERS] = 0;
     if (fault("left root lost beside 9") && !fell(weak)) answer[LEFT_ROOT] = 0;
     if (fault("right root lost beside 9") && !fell(strong)) answer[RIGHT_ROOT] = 0;
     if (fault("iterate shown beside 9") && !fell(weak)) weak[ROOT] = 1;
@@ -158,6 +159,63 @@ static void list_fault(TEXT_ARGUMENTS, const uint32_t *low, const uint32_t *high
         weak[0] = apart[WEAK], weak[ROUNDS] = apart[WEAK + ROUNDS];
 }
 
+static uint64_t least(uint64_t a, uint64_t b) { return a < b ? a : b; }
+
+/* Faults in the numbers of nodes beside refusals 1 to 7, which have none. */
+static void no_nodes_fault(uint64_t room, uint64_t *answer) {
+    if (fault("nodes given with 1 to 7")) answer[NODES] = answer[RELATIONS] = answer[ANSWERS] = room;
+    if (fault("refusal's ninth word not 0")) answer[NODES] = 1;
+    if (fault("refusal's tenth word not 0")) answer[RELATIONS] = 1;
+    if (fault("refusal's eleventh word not 0")) answer[ANSWERS] = 1;
+}
+
+/* Faults in which stage of the list a number counts, also in 8; a number is at most `room`. */
+static void stage_fault(TEXT_ARGUMENTS, uint64_t room, uint64_t *answer) {
+    static uint8_t nil[] = "000101\n"; /* its relation has no node */
+    uint64_t apart[WORDS], relations = answer[RELATIONS];
+    if (fault("stages swapped")) answer[RELATIONS] = answer[ANSWERS], answer[ANSWERS] = relations;
+    if (fault("tenth word left 0")) answer[RELATIONS] = 0;
+    if (fault("eleventh word left 0")) answer[ANSWERS] = 0;
+    if (fault("whole list given for the relations")) answer[RELATIONS] = answer[NODES];
+    if (fault("whole list given for the weak answers")) answer[ANSWERS] = answer[NODES];
+    if (fault("a found node counted as new"))
+        for (int k = NODES; k < NODES + NUMBERS; k++) answer[k] = least(answer[k] + 1, room);
+    if (fault("relation of the left alone") && compare_apart(left, left_len, nil, sizeof nil - 1, 0, apart) == ANSWERED)
+        answer[RELATIONS] = least(apart[RELATIONS], room);
+    if (fault("first iterate counted with the weak answers") && compare_apart(left, left_len, right, right_len, 0, apart) == ANSWERED)
+        answer[ANSWERS] = least(apart[NODES], room);
+}
+
+/* Faults by which a number of 8 is above the room. */
+static void unclipped_fault(TEXT_ARGUMENTS, uint64_t limit, uint64_t room, uint64_t *answer) {
+    static const char *const unclipped[NUMBERS] = {"whole list not clipped", "relations not clipped", "weak answers not clipped"};
+    uint64_t apart[WORDS];
+    int k = 0, longer = fault("clipped at the table's length");
+    while (k < NUMBERS && !fault(unclipped[k])) k++;
+    if ((k == NUMBERS && !longer) || compare_apart(left, left_len, right, right_len, limit, apart) != ANSWERED) return;
+    if (k < NUMBERS) answer[NODES + k] = apart[NODES + k];
+    else for (k = NODES; k < NODES + NUMBERS; k++) answer[k] = least(apart[k], room + 2);
+}
+
+/* Faults by which a number of 8 is below what it should be, or is the room where it should be less. */
+static void clipped_fault(uint64_t room, uint64_t *answer) {
+    if (fault("8 without nodes")) memset(answer + NODES, 0, NUMBERS * 8);
+    if (fault("relations clipped too early")) answer[RELATIONS] = room;
+    if (fault("weak answers clipped too early")) answer[ANSWERS] = room;
+    if (fault("clipped below the room"))
+        for (int k = NODES; k < NODES + NUMBERS; k++) answer[k] -= answer[k] == room && room > 0;
+}
+
+/* Faults in the three numbers of nodes. */
+static void nodes_fault(uint64_t kind, TEXT_ARGUMENTS, uint64_t limit, size_t length, uint64_t *answer) {
+    if (kind == REFUSED && answer[0] != 8) return no_nodes_fault(length, answer);
+    const uint64_t room = kind == REFUSED ? length - 2 : UINT64_MAX;
+    stage_fault(left, left_len, right, right_len, room, answer);
+    if (kind != REFUSED) return;
+    unclipped_fault(left, left_len, right, right_len, limit, room, answer);
+    clipped_fault(room, answer);
+}
+
 /* Faults in the words of a refusal. */
 static void refusal_fault(uint64_t *answer) {
     if (fault("refusal's number") && answer[0] == 6) answer[0] = 5;
@@ -175,8 +233,6 @@ static void answer_fault(uint64_t *answer, size_t work_len) {
     if (fault("strong rounds") && strong[ROUNDS] > 3) strong[ROUNDS]--;
     if (fault("weak rounds") && weak[ROUNDS] > 3) weak[ROUNDS]--;
     if (fault("work seen") && work_len == 1) strong[ROUNDS]++;
-    if (fault("tenth word not 0")) answer[9] = 1;
-    if (fault("eleventh word not 0")) answer[10] = 1;
     if (fault("twelfth word not 0")) answer[11] = 1;
     if (fault("roots swapped")) {
         uint64_t left = answer[LEFT_ROOT];
@@ -186,7 +242,7 @@ static void answer_fault(uint64_t *answer, size_t work_len) {
 
 /* Faults in what a call returns: 9 refuses it, and 8 is judged by a list that is not the joined one. */
 static uint64_t kind_fault(uint64_t kind, TEXT_ARGUMENTS, uint64_t limit, size_t length, uint64_t *answer) {
-    uint64_t apart[WORDS];
+    uint64_t apart[WORDS], given[WORDS];
     int undecided = kind == ANSWERED && (!fell(answer + STRONG) || !fell(answer + WEAK));
     if (fault("9 refuses the call") && undecided) return memcpy(answer, (uint64_t[WORDS]){9, 2}, WORDS * 8), REFUSED;
     if (kind != REFUSED || answer[0] != 8) return kind;
@@ -195,8 +251,9 @@ static uint64_t kind_fault(uint64_t kind, TEXT_ARGUMENTS, uint64_t limit, size_t
         return ANSWERED;
     if (!fault("8 judged by the strong list alone") || compare_apart(left, left_len, right, right_len, limit, apart) != ANSWERED) return kind;
     /* Of the weak list only the rounds after the strong verdict are left out: this shows even less often. */
+    memcpy(given, answer, sizeof given);
     if (compare_apart(left, left_len, right, right_len, apart[STRONG + ROUNDS], answer) == ANSWERED && answer[NODES] + 2 <= length) return ANSWERED;
-    return memcpy(answer, (uint64_t[WORDS]){8, 2}, WORDS * 8), kind;
+    return memcpy(answer, given, sizeof given), kind;
 }
 
 /* Faults in the memory that a call was lent. */
@@ -279,6 +336,7 @@ uint64_t __wrap_seipolku_compare(COMPARE_ARGUMENTS) {
         return kind == SHORT && fault("short answer refused") ? REFUSED : kind;
     }
     if (fault("thirteenth word") && words > WORDS) answer[WORDS] = 0;
+    nodes_fault(kind, left, left_len, right, right_len, limit, level_len, answer);
     if (kind == REFUSED) refusal_fault(answer);
     if (kind == ANSWERED) {
         mode_fault(answer), answer_fault(answer, work_len);

@@ -1,4 +1,4 @@
-/* The limits of document 01 as document 02's point 1 left them, and the numbers of an answer as point 2 did. */
+/* The limits of document 01 as document 02's point 1 left them, and the numbers of an answer as points 2 and 6 did. */
 #ifndef LIMITS_H
 #define LIMITS_H
 
@@ -15,7 +15,9 @@ enum { LONGEST = 1 << 20, MAX_LINES = 64, LONGEST_TEXT = 32704 };
 enum { ANSWERED = 0, REFUSED = 2, SHORT = 3 };
 enum { EQUAL = 0, DIFFERENT = 1, UNDECIDED = 9 };
 
-/* Words of a comparison's answer: two roots, for each mode a verdict, its rounds and its iterate's root, then the nodes; and of what is told of a model. */
-enum { LEFT_ROOT = 0, RIGHT_ROOT = 1, STRONG = 2, WEAK = 5, ROUNDS = 1, ROOT = 2, NODES = 8, WORDS = 12, MODEL_WORDS = 6 };
+/* Words of a comparison's answer: two roots, for each mode a verdict, its rounds and its iterate's root, then the nodes of the whole list, up to the
+   relations and up to the weak answers, which stand with 8 too; and of what is told of a model. */
+enum { LEFT_ROOT = 0, RIGHT_ROOT = 1, STRONG = 2, WEAK = 5, ROUNDS = 1, ROOT = 2, NODES = 8, RELATIONS = 9, ANSWERS = 10, NUMBERS = 3, WORDS = 12 };
+enum { MODEL_WORDS = 6 };
 
 #endif

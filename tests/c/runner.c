@@ -12,7 +12,7 @@
 #include <string.h>
 #include <unistd.h>
 
-enum { LENT = 5, MOST_REPORTS = 20, ACTIONS = 64, EXPECTED = 5, MOST_CODES = 100 };
+enum { LENT = 5, MOST_REPORTS = 20, ACTIONS = 64, VERDICTS = 4, EXPECTED = VERDICTS + NUMBERS, MOST_CODES = 100 };
 
 /* The header names the limits of these tests, and the numbers and words of answers. */
 #define SAME(name, value) _Static_assert((int)(name) == (int)(value), #name)
@@ -37,6 +37,9 @@ SAME(SEIPOLKU_WEAK_VERDICT, WEAK);
 SAME(SEIPOLKU_WEAK_ROUNDS, WEAK + ROUNDS);
 SAME(SEIPOLKU_WEAK_ROOT, WEAK + ROOT);
 SAME(SEIPOLKU_NODES, NODES);
+SAME(SEIPOLKU_NODES_UP_TO_RELATIONS, RELATIONS);
+SAME(SEIPOLKU_NODES_UP_TO_ANSWERS, ANSWERS);
+SAME(SEIPOLKU_FULL, 8);
 SAME(SEIPOLKU_REFUSAL_NUMBER, 0);
 SAME(SEIPOLKU_REFUSAL_SIDE, 1);
 SAME(SEIPOLKU_REFUSAL_LINE, 2);
@@ -45,8 +48,8 @@ SAME(SEIPOLKU_MODEL_LINES, 1);
 SAME(SEIPOLKU_MODEL_USES, 2);
 SAME(SEIPOLKU_MODEL_STATES, 3);
 
-/* A comparison but for its texts. Expected are the returned kind, and each mode's verdict with its rounds, strong before weak, and the nodes; or a refusal's
-   number, side and line. */
+/* A comparison but for its texts. Expected are the returned kind; each mode's verdict with its rounds, strong before weak, or a refusal's number, side and
+   line; and the three numbers of nodes in the order of the words, 0 with refusals 1 to 7. */
 typedef struct { uint64_t limit, table[3], work, words, seed, kind, expected[EXPECTED]; } Call;
 
 static Slice left, right, level, low, high, work, answer;
@@ -102,33 +105,37 @@ static const char *wrong_verdict(const uint64_t *w, const uint64_t *expected) {
     return looked_up(w[ROOT], 0, start) == 1 ? NULL : "an iterate that lacks the start";
 }
 
-/* NULL if the table and the words of an answer are what is expected, else what is wrong. */
+/* NULL if the table, the roots and the verdicts of an answer are what is expected, else what is wrong. */
 static const char *wrong_answer(const uint64_t *w, const uint64_t *expected) {
     const uint64_t roots[] = {w[LEFT_ROOT], w[RIGHT_ROOT], w[STRONG + ROOT], w[WEAK + ROOT]};
     const char *why = misshapen(level.at, (uint32_t *)(void *)low.at, (uint32_t *)(void *)high.at, level.size, roots, 4);
     if (!why) why = wrong_verdict(w + STRONG, expected);
-    if (!why) why = wrong_verdict(w + WEAK, expected + 2);
-    if (!why && w[NODES] != expected[4]) return "other nodes";
-    return why;
+    return why ? why : wrong_verdict(w + WEAK, expected + 2);
 }
 
-/* Whether the words from one on are all 0. */
-static int zero_from(const uint64_t *w, int first) {
-    for (int k = first; k < WORDS; k++)
+/* Whether the words from one up to another are all 0. */
+static int zero(const uint64_t *w, int first, int end) {
+    for (int k = first; k < end; k++)
         if (w[k]) return 0;
     return 1;
 }
 
+static const char *wrong_refusal(const uint64_t *w, const uint64_t *expected) {
+    if (memcmp(w, expected, 3 * 8)) return "another refusal";
+    if (!zero(w, 3, NODES)) return "a word without a meaning is not 0";
+    return w[0] > 7 || all_kept(3) ? NULL : "table touched";
+}
+
 /* NULL if the call did what is expected, else what it did not. */
 static const char *wrong(const Call *c, uint64_t returned) {
-    const uint64_t *w = (const uint64_t *)(void *)answer.at, *e = c->expected;
+    const uint64_t *w = (const uint64_t *)(void *)answer.at;
     if (returned != c->kind) return "another kind of answer";
     if (returned == SHORT) return all_kept(LENT) ? NULL : "lent memory touched";
     if (!kept(&answer, WORDS * 8)) return "words past the twelfth touched";
-    if (!zero_from(w, returned == REFUSED ? 3 : NODES + 1)) return "a word without a meaning is not 0";
-    if (returned == ANSWERED) return wrong_answer(w, e);
-    if (w[0] != e[0] || w[1] != e[1] || w[2] != e[2]) return "another refusal";
-    return w[0] > 7 || all_kept(3) ? NULL : "table touched";
+    if (!zero(w, NODES + NUMBERS, WORDS)) return "the twelfth word is not 0";
+    const char *why = returned == ANSWERED ? wrong_answer(w, c->expected) : wrong_refusal(w, c->expected);
+    if (why) return why;
+    return memcmp(w + NODES, c->expected + VERDICTS, NUMBERS * 8) ? "other nodes" : NULL;
 }
 
 static void print_text(const char *name, const Slice *text) {
