@@ -37,8 +37,17 @@ enum {
     SEIPOLKU_STRONG_ROOT = 4,    /* the largest strong bisimulation if equal, else 0 */
     SEIPOLKU_WEAK_VERDICT = 5,   /* the same of the weak verdict */
     SEIPOLKU_WEAK_ROUNDS = 6,
-    SEIPOLKU_WEAK_ROOT = 7,
-    SEIPOLKU_NODES = 8 /* needed for both verdicts together */
+    SEIPOLKU_WEAK_ROOT = 7
+};
+
+/* Where the nodes went: words of an answered comparison and of a refusal with 8; in every other refusal they are 0. Each number holds the ones
+ * before it, in the order relations, answers, whole. In a refusal with 8 a number above the nodes that fit, which are two fewer than the table's
+ * entries, is given as these, and every other one is exact; SEIPOLKU_NODES is always these. So what fills the table is the first of the
+ * three, in that order, that is as large as SEIPOLKU_NODES: the relations, the weak answers, or the comparison itself. */
+enum {
+    SEIPOLKU_NODES = 8,                 /* needed for both verdicts together: of the whole list */
+    SEIPOLKU_NODES_UP_TO_RELATIONS = 9, /* of the relations, that is, the steps of both models */
+    SEIPOLKU_NODES_UP_TO_ANSWERS = 10   /* of the relations and the weak answers, before any iterate */
 };
 
 /* The values of the words SEIPOLKU_STRONG_VERDICT and SEIPOLKU_WEAK_VERDICT, never of what is returned. */
@@ -48,12 +57,15 @@ enum {
     SEIPOLKU_VERDICT_NONE = 9 /* none by the limit: refusal 9, for this verdict alone */
 };
 
-/* The words of a refusal. Side: 0 left, 1 right, 2 neither. */
+/* The words of a refusal. Side: 0 left, 1 right, 2 neither. With SEIPOLKU_FULL also where the nodes went, above. */
 enum {
     SEIPOLKU_REFUSAL_NUMBER = 0,
     SEIPOLKU_REFUSAL_SIDE = 1,
     SEIPOLKU_REFUSAL_LINE = 2
 };
+
+/* The number of a refusal where the nodes of both verdicts together do not fit into the table. */
+enum { SEIPOLKU_FULL = 8 };
 
 /* The words of an accepted model. */
 enum {
@@ -78,7 +90,8 @@ enum {
  *
  * Refused are, in this order: 7 a table that does not fit; 1 to 6 the left text, then the right one; 8 where the nodes that both verdicts need
  * together do not fit into the table, also where those of one of them would. 9 refuses no call: in the place of a verdict that does not fall by
- * the limit stands SEIPOLKU_VERDICT_NONE, and the other one, the roots and the nodes are given all the same.
+ * the limit stands SEIPOLKU_VERDICT_NONE, and the other one, the roots and the nodes are given all the same. An answer and 8 tell where the
+ * nodes went.
  *
  * level, low and high are the table: of one length, 2 to 1,048,576. A refusal 1 to 7 leaves them untouched; after 8 their content is free.
  * After an answer, also without one or both verdicts, they hold an ordered, reduced table without duplicates, in which seipolku_look_up reads.

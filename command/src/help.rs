@@ -5,7 +5,7 @@ seipolku: whether two models of a system behave the same, by strong and by weak 
 Verdicts, refusals and every step and pair that is listed come from a library whose code is proved; that a listing misses no
 step is tested.
 
-  seipolku compare LEFT RIGHT    the strong and the weak verdict, rounds, nodes and time
+  seipolku compare LEFT RIGHT    the strong and the weak verdict, rounds, time, and where the nodes went
   seipolku pairs LEFT RIGHT      the largest bisimulation, pair by pair
   seipolku steps MODEL           the steps of a model, state by state
   seipolku show MODEL            a model in words and as an expression, or as a picture
@@ -30,9 +30,9 @@ of the library, or its answer is not printed.
 const COMPARE: &str = "\
 seipolku compare LEFT RIGHT [--mode strong|weak|both] [--limit N] [--nodes N] [--by-number] [--quiet] [--json]
 
-Compares two model texts, strongly and weakly in one call. It prints a line for each verdict with its rounds, and one with the nodes and
-the time for both. Strong: a step is answered by one step. Weak: internal steps are not counted. A refusal is explained below the lines,
-with its number and what to do; that of a text also with its side, its line and the line itself.
+Compares two model texts, strongly and weakly in one call. It prints a line for each verdict with its rounds, one with the nodes and the
+time for both, and below it where the nodes went. Strong: a step is answered by one step. Weak: internal steps are not counted. A refusal
+is explained below the lines, with its number and what to do; that of a text also with its side, its line and the line itself.
 
   --mode strong|weak|both   which verdict is printed and decides the exit status. Both are worked out in any case. Default: both.
   --limit N                 the most rounds of each verdict. One that takes more is refused with 9, and the other one is given all the
@@ -43,6 +43,18 @@ with its number and what to do; that of a text also with its side, its line and 
   --quiet                   print no verdict: the exit status says it. Refusals, errors and notes go to standard error.
   --json                    print one JSON object, whatever happens; docs/FORMS.md says what it has. With --quiet too, the object is
                             printed, and refusals, errors and notes go to standard error as well.
+
+Where the nodes went: three stages fill one table, one after the other. Each has a line with its own nodes, the nodes so far, that is, up to
+this stage, and its share of all nodes, rounded, in percent and as a bar. A node that several stages need counts for the first of them.
+
+  relations                 the steps of both models
+  weak answers              their weak steps: a step with any internal steps before and after it, or internal steps alone
+  comparison                what is worked out from both, round by round, until the verdicts fall or the limit is reached
+
+After refusal 8 the lines show what fills the table, with shares of the nodes that fit. The bar of the stage at which it is full ends with
+'>', since that stage may need more, and the stages after it have no numbers. So it can be seen whether the models themselves, their weak
+steps or the comparison are too large; the advice goes by that. To compare a part by itself, put it into a file of its own: the first lines
+of a text are a model, too.
 
 Channels are compared by number. Two models whose name tables give a number two names or a name two numbers, or have a name as a gate on
 one side and as a channel with directions on the other, are not compared, unless --by-number is given. If a model does not name its

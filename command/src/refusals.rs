@@ -2,11 +2,12 @@
 
 use crate::culprit::{self, Culprit, Line};
 use crate::files;
-use crate::outcome::{counted, grouped};
+use crate::full;
+use crate::outcome::grouped;
 use crate::proved::Lent;
 use crate::words::word;
 use seipolku::frames::MOST_USES;
-use seipolku::{Comparison, Mode, Refusal, Side, MAX_BITS, MAX_TABLE};
+use seipolku::{Comparison, Fault, Mode, Refusal, Side, MAX_BITS};
 use std::path::Path;
 
 /// The number that stands in the place of a verdict where none falls by the limit; it refuses no comparison.
@@ -46,7 +47,6 @@ fn what_to_do(refusal: &Refusal) -> &'static str {
         3 => "number the lines from 00 upward and use at most 64, or write the model in the readable form and run 'seipolku build'",
         6 => "use fewer or smaller leaves in this line; n states take as many bits as n - 1 has, enable adds one bit and disable two",
         7 => "give --nodes a number from 2 to 1,048,576",
-        8 => "give a larger table with --nodes N, at most 1,048,576, or make the models smaller, with fewer states or fewer leaves",
         _ => "report this with the models",
     }
 }
@@ -107,83 +107,24 @@ pub fn of_limit(modes: &[Mode], both: &Comparison, limit: u64) -> String {
 }
 
 fn of_neither(refusal: &Refusal, call: &Call, table: &mut Lent) -> String {
-    let number = refusal.fault.number();
     let entries = call.entries;
-    let detail = match number {
-        7 => format!("  The table's length is {}.\n", grouped(entries)),
-        8 => {
-            let room = entries.saturating_sub(2);
-            let fit = if room == 1 { "fits" } else { "fit" };
-            format!(
-                "  {} {fit} into {} entries. Both verdicts are worked out in one table, so neither is given, also where one alone would fit.\n",
-                counted(room, "node"),
-                grouped(entries)
-            )
+    let (detail, advice) = match refusal.fault {
+        Fault::Full(nodes) => (full::detail(nodes, entries), full::advice(nodes, call, table)),
+        Fault::Table => {
+            (format!("  The table's length is {}.\n", grouped(entries)), what_to_do(refusal).to_string())
         }
-        _ => String::new(),
+        _ => (String::new(), what_to_do(refusal).to_string()),
     };
-    let advice = match number == 8 && entries == MAX_TABLE as u64 {
-        true => largest_advice(call, table),
-        false => what_to_do(refusal).to_string(),
-    };
-    format!("Refusal {number}: {}.\n{detail}What to do: {advice}.\n", rule(refusal))
-}
-
-/// What helps where the largest table is full. Fewer rounds need fewer nodes, so that a smaller limit may fit and give one verdict; both never,
-/// since their list would be the refused one.
-fn largest_advice(call: &Call, table: &mut Lent) -> String {
-    let smaller =
-        "make the models smaller, with fewer states or fewer leaves; no table is larger than this one";
-    match one_verdict(call, table) {
-        None => format!("{smaller}, and no limit helps: none gives a verdict"),
-        Some((limit, mode)) if call.modes.contains(&mode) => {
-            format!("{smaller}. Or give --limit {limit}, which gives the {} verdict alone", word(mode))
-        }
-        Some((limit, mode)) => {
-            let asked = call.modes.iter().map(|mode| word(*mode)).collect::<Vec<_>>().join(" and ");
-            format!(
-                "{smaller}, and no limit gives the {asked} verdict; --limit {limit} gives the {} one",
-                word(mode)
-            )
-        }
-    }
-}
-
-/// A limit that fits and gives a verdict, and which one. The limits that fit are searched upwards in growing steps.
-fn one_verdict(call: &Call, table: &mut Lent) -> Option<(u64, Mode)> {
-    let (mut fits, mut full, mut step) = (0, call.limit, 1);
-    while fits + 1 < full {
-        let limit = fits.saturating_add(step).min(full - 1);
-        match table.get().and_then(|table| table.compare(call.texts[0], call.texts[1], limit)) {
-            Ok(both) => {
-                let fallen = [Mode::Strong, Mode::Weak]
-                    .into_iter()
-                    .find(|mode| both.verdict(*mode).rounds().is_some());
-                if let Some(mode) = fallen {
-                    return Some((limit, mode));
-                }
-                (fits, step) = (limit, step.saturating_mul(2));
-            }
-            Err(_) => (full, step) = (limit, 1),
-        }
-    }
-    None
+    format!("Refusal {}: {}.\n{detail}What to do: {advice}.\n", refusal.fault.number(), rule(refusal))
 }
 
 /// The refusal where the steps of one accepted model are listed. `smaller` says what helps where the largest table is full.
 pub fn of_steps(refusal: &Refusal, model: &str, smaller: &str) -> String {
-    let number = refusal.fault.number();
-    let (rule, advice) = match number {
-        8 => {
-            let entries = grouped(MAX_TABLE as u64);
-            let rule = format!(
-                "the model's steps and weak steps, which are worked out together, need more nodes than fit into a table of {entries} entries, and none is larger"
-            );
-            (rule, smaller)
-        }
-        _ => (rule(refusal), what_to_do(refusal)),
+    let (rule, advice) = match refusal.nodes() {
+        Some(nodes) => (full::of_steps(nodes), smaller),
+        None => (rule(refusal), what_to_do(refusal)),
     };
-    format!("{model}: refusal {number}: {rule}. What to do: {advice}.")
+    format!("{model}: refusal {}: {rule}. What to do: {advice}.", refusal.fault.number())
 }
 
 /// The refusal of one text, which is that of a line, several lines long.

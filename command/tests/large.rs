@@ -175,7 +175,11 @@ fn too_many_weak_steps_to_list() {
         for words in [&["steps", file][..], &["to-aut", file], &["show", file, "--dot"]] {
             let ran = quick(&folder, words);
             assert_eq!((ran.status, ran.out.as_str()), (2, ""), "{words:?}: {}", ran.err);
-            assert!(ran.err.starts_with(&format!("seipolku: {file}: refusal 8: ")), "{}", ran.err);
+            let together = "the model's steps and weak steps are worked out together: the steps take ";
+            assert!(ran.err.starts_with(&format!("seipolku: {file}: refusal 8: {together}")), "{}", ran.err);
+            let filled =
+                " nodes, and the weak steps fill the rest of a table of 1,048,576 entries; none is larger. ";
+            assert!(ran.err.contains(filled), "{}", ran.err);
         }
     }
     assert!(folder.done(&["steps", "composed24.hex", "--line", "8"]).starts_with("512 reachable states, "));
@@ -195,7 +199,9 @@ fn steps_without_rounds() {
     folder.write("model.hex", format!("000103000201010302020400\n010102000401\n{lines}"));
     folder.write("idle.hex", "000101\n");
     fails(&folder, &["steps", "model.hex"], "model.hex has more than 1,000 reachable states");
-    assert!(folder.run(&["compare", "model.hex", "idle.hex"]).out.starts_with("both    refused    8, "));
+    let ran = folder.run(&["compare", "model.hex", "idle.hex"]);
+    assert!(ran.out.starts_with("both    refused    8, "), "{}", ran.out);
+    assert!(ran.out.contains("The comparison itself does not fit into the rest, "), "{}", ran.out);
     let ran = quick(&folder, &["compare", "model.hex", "idle.hex", "--limit", "0"]);
     assert!(ran.out.contains("\nboth    1,025,032 nodes, "), "{}", ran.out);
 }
@@ -205,8 +211,8 @@ fn steps_without_rounds() {
 fn too_many_nodes_to_list() {
     let folder = Folder::new();
     folder.write("tangled.hex", tangled());
-    let refusal = "tangled.hex: refusal 8: the model's steps and weak steps, which are worked out together, need more nodes than fit \
-                   into a table of 1,048,576 entries, and none is larger. What to do: take a smaller part of the model with --line K.\n";
+    let refusal = "tangled.hex: refusal 8: the model's steps fill a table of 1,048,576 entries, and none is larger. What to do: take a \
+                   smaller part of the model with --line K.\n";
     for words in [&["steps"][..], &["steps", "--all"], &["to-aut"], &["show", "--dot"]] {
         let ran = quick(&folder, &[words, &["tangled.hex"]].concat());
         let expected = format!("seipolku: {refusal}");
@@ -215,6 +221,13 @@ fn too_many_nodes_to_list() {
     let ran = quick(&folder, &["steps", "tangled.hex", "--line", "14"]);
     assert_eq!(ran.err, format!("seipolku: line 14 of {refusal}"));
     assert!(folder.done(&["steps", "tangled.hex", "--line", "8"]).starts_with("64 reachable states, "));
+    let ran = quick(&folder, &["compare", "tangled.hex", "tangled.hex"]);
+    assert!(
+        ran.out.contains(" entries. The steps of the two models (the relations) fill the table, "),
+        "{}",
+        ran.out
+    );
+    assert!(ran.out.ends_with("and no limit helps: not one round fits.\n"), "{}", ran.out);
 }
 
 /// A verdict other than "equal" comes before any listing.

@@ -77,7 +77,7 @@ const JSON_CASES: &[(&[&str], i32, &str)] = &[
     ),
     (&["compare", "a.hex", "a.hex", "--nodes", "1"], 2, "\"number\": 7, \"side\": \"neither\", \"line\": null"),
     (&["compare", "a.hex", "a.hex", "--limit", "0"], 2, "\"number\": 9"),
-    (&["compare", "a.hex", "bad.hex"], 2, "\"nodes\": null, \"seconds\": "),
+    (&["compare", "a.hex", "bad.hex"], 2, "\"nodes\": null, \"nodes_up_to\": null, \"seconds\": "),
     (
         &["compare", "a.hex", "a.hex", "--mode", "weak"],
         0,

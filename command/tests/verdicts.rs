@@ -3,6 +3,7 @@
 mod common;
 
 use common::{run, top, Folder};
+use seipolku::MAX_TABLE;
 use std::fs;
 
 /// The first number or word after a member's name in a JSON object.
@@ -17,6 +18,12 @@ fn answer(object: &str, mode: &str) -> [String; 2] {
     ["verdict", "rounds"].map(|name| member(after, name))
 }
 
+/// The numbers that tell where the nodes went.
+fn numbers(object: &str) -> [u64; 3] {
+    let up_to = object.split("\"nodes_up_to\": ").nth(1).expect("the numbers");
+    ["relations", "answers", "whole"].map(|name| member(up_to, name).parse().expect("a number"))
+}
+
 /// A pair with its two verdicts, by one call, and the exit status by each of them and by both.
 #[test]
 fn shipped_pairs() {
@@ -24,7 +31,7 @@ fn shipped_pairs() {
     let rows: Vec<&str> = rows.lines().filter(|row| !row.starts_with('#')).collect();
     assert!(rows.len() > 70, "{} pairs", rows.len());
     for row in rows {
-        let [left, right, strong, strong_rounds, weak, weak_rounds, nodes] =
+        let [left, right, strong, strong_rounds, weak, weak_rounds, relations, answers, nodes] =
             row.split('\t').collect::<Vec<_>>()[..]
         else {
             panic!("{row}");
@@ -33,6 +40,8 @@ fn shipped_pairs() {
         let compare = |more: &[&str]| run(&[&["compare", &files[0], &files[1]], more].concat());
         let ran = compare(&["--json"]);
         assert!(ran.err.is_empty(), "{row}: {}", ran.err);
+        let stored = [relations, answers, nodes].map(|number| number.parse().unwrap_or(MAX_TABLE as u64 - 2));
+        assert_eq!(numbers(&ran.out), stored, "{row}");
         if nodes == "-" {
             assert_eq!((member(&ran.out, "number"), ran.status), ("8".to_string(), 2), "{row}");
             continue;
@@ -78,23 +87,29 @@ fn advised_limits() {
     let rows = fs::read_to_string(top().join("models/EXPECTED.tsv")).expect("the stored verdicts");
     let folder = Folder::new();
     let mut pairs = vec![hidden_leaves(&folder)];
-    for row in rows.lines().filter(|row| row.ends_with("\t-")) {
-        let mut files = row.split('\t').map(|file| format!("models/{file}"));
-        pairs.push([files.next().expect("left"), files.next().expect("right")]);
+    for row in rows.lines() {
+        if let [left, right, .., "-"] = row.split('\t').collect::<Vec<_>>()[..] {
+            pairs.push([left, right].map(|file| format!("models/{file}")));
+        }
     }
     let mut advised = Vec::new();
     for files in &pairs {
         let compare = |more: &[&str]| run(&[&["compare", &files[0], &files[1]], more].concat()).out;
         let whole = compare(&[]);
-        let Some((_, advice)) = whole.split_once("Or give --limit ") else {
-            assert!(whole.contains("no limit helps: none gives a verdict"), "{files:?}: {whole}");
+        let Some((_, advice)) = whole.split_once(", but --limit ") else {
             let by_limit = |limit: u32| compare(&["--limit", &limit.to_string()]);
             let fitting: Vec<String> =
                 (1..).map(by_limit).take_while(|out| !out.contains("Refusal 8")).collect();
             assert!(fitting.iter().all(|out| fallen(out).is_empty()), "{files:?}: {fitting:?}");
+            let rounds = match fitting.len() {
+                0 => "not one round fits".to_string(),
+                1 => "1 round fits, without a verdict".to_string(),
+                more => format!("{more} rounds fit, without a verdict"),
+            };
+            assert!(whole.ends_with(&format!(", and no limit helps: {rounds}.\n")), "{files:?}: {whole}");
             continue;
         };
-        let limit = advice.split(',').next().expect("a number");
+        let limit = advice.split(' ').next().expect("a number");
         let [given] = fallen(&compare(&["--limit", limit]))[..] else { panic!("{files:?}: {whole}") };
         assert!(advice.contains(&format!("gives the {given} verdict alone")), "{files:?}: {whole}");
         let other = if given == "weak" { "strong" } else { "weak" };

@@ -1,7 +1,8 @@
-//! What a comparison answers: two verdicts, and the roots of what the table shows.
+//! What a comparison answers: two verdicts, where the nodes went, and the roots of what the table shows.
 
 use crate::ffi;
 use crate::model::Model;
+use crate::nodes::Nodes;
 use crate::refusal::Refusal;
 use crate::steps::Steps;
 use crate::table::{Root, Table};
@@ -108,8 +109,8 @@ pub struct Comparison<'t> {
     pub strong: Verdict<'t>,
     /// The verdict by weak answers.
     pub weak: Verdict<'t>,
-    /// The nodes that both verdicts needed together.
-    pub nodes: u64,
+    /// The nodes that both verdicts needed together, and where they went. They belong to the whole call, and not to one verdict.
+    pub nodes: Nodes,
 }
 
 impl<'t> Comparison<'t> {
@@ -121,7 +122,7 @@ impl<'t> Comparison<'t> {
             right: root(answer[1]),
             strong: Verdict::of(table, answer[2], answer[3], answer[4]),
             weak: Verdict::of(table, answer[5], answer[6], answer[7]),
-            nodes: answer[8],
+            nodes: Nodes::of(&answer),
         }
     }
 

@@ -40,6 +40,9 @@ extern "C" {
 /// What a call returns with a refusal in its answer.
 pub const REFUSED: u64 = 2;
 
+/// The number of the refusal that tells where the nodes went.
+pub const FULL: u64 = 8;
+
 /// How many words the answer of `seipolku_compare` has.
 pub const ANSWER_WORDS: usize = 12;
 

@@ -12,7 +12,7 @@
 //! assert!(compared.strong.different() && compared.weak.equal());
 //! assert_eq!(compared.weak.rounds(), Some(3));
 //! assert_eq!(compared.weak.related(1, 2), Ok(Some(true)));
-//! assert_eq!(compared.nodes, 956);
+//! assert_eq!(compared.nodes.whole, 956);
 //! ```
 
 mod comparison;
@@ -21,6 +21,7 @@ pub mod frames;
 pub mod layout;
 mod limits;
 mod model;
+mod nodes;
 mod refusal;
 mod steps;
 mod table;
@@ -29,6 +30,7 @@ pub use comparison::{Comparison, Mode, Verdict};
 pub use layout::{Layout, LeafUse};
 pub use limits::{CODES, LAST_LEVEL, MAX_BITS};
 pub use model::{model, Model};
+pub use nodes::Nodes;
 pub use refusal::{Fault, Refusal, Side};
 pub use steps::Steps;
 pub use table::{Root, Table, TableError, MAX_TABLE};

@@ -1,7 +1,9 @@
 //! Refusals, by document 01's numbers and in words.
 
+use crate::ffi;
 use crate::frames::MOST_USES;
 use crate::limits::MAX_BITS;
+use crate::nodes::Nodes;
 use std::fmt;
 
 /// Which text a refusal speaks of.
@@ -30,8 +32,8 @@ pub enum Fault {
     Limits,
     /// 7: a table that does not fit.
     Table,
-    /// 8: the nodes that both verdicts need together do not fit.
-    Full,
+    /// 8: the nodes that both verdicts need together do not fit; and where those went that do.
+    Full(Nodes),
     /// 10: a look-up's number out of range, or a walk that leaves the table or its order.
     LookUp,
 }
@@ -47,11 +49,12 @@ impl Fault {
             Fault::Range => 5,
             Fault::Limits => 6,
             Fault::Table => 7,
-            Fault::Full => 8,
+            Fault::Full(_) => 8,
             Fault::LookUp => 10,
         }
     }
 
+    /// The fault of any number but 8, which comes with nodes.
     pub(crate) fn of(number: u64) -> Fault {
         match number {
             1 => Fault::Digits,
@@ -61,7 +64,6 @@ impl Fault {
             5 => Fault::Range,
             6 => Fault::Limits,
             7 => Fault::Table,
-            8 => Fault::Full,
             _ => Fault::LookUp,
         }
     }
@@ -77,7 +79,12 @@ impl Fault {
                 return format!("the line's process has more than {MAX_BITS} bits or {MOST_USES} leaf uses")
             }
             Fault::Table => "the table does not fit",
-            Fault::Full => "the comparison needs more nodes than fit into the table",
+            Fault::Full(Nodes { relations, answers, whole }) => {
+                return format!(
+                    "the comparison needs more nodes than the {whole} that fit into the table; \
+                     of these {relations} are of the relations, and {answers} of the relations and the weak answers"
+                )
+            }
             Fault::LookUp => "a number out of range, or a walk that leaves the table",
         };
         words.to_string()
@@ -93,7 +100,7 @@ pub struct Refusal {
 }
 
 impl Refusal {
-    /// The refusal that the first words of an answer tell.
+    /// The refusal that the first words of an answer tell, where they do not tell 8.
     pub(crate) fn of(number: u64, side: u64, line: u64) -> Refusal {
         let side = match side {
             0 => Side::Left,
@@ -101,6 +108,23 @@ impl Refusal {
             _ => Side::Neither,
         };
         Refusal { fault: Fault::of(number), side, line }
+    }
+
+    /// The refusal that the words of a comparison's answer tell.
+    pub(crate) fn of_comparison(answer: &[u64; ffi::ANSWER_WORDS]) -> Refusal {
+        let [number, side, line, ..] = *answer;
+        match number {
+            ffi::FULL => Refusal { fault: Fault::Full(Nodes::of(answer)), side: Side::Neither, line },
+            _ => Refusal::of(number, side, line),
+        }
+    }
+
+    /// Where the nodes went, with 8; nothing with another number.
+    pub fn nodes(&self) -> Option<Nodes> {
+        match self.fault {
+            Fault::Full(nodes) => Some(nodes),
+            _ => None,
+        }
     }
 }
 

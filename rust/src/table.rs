@@ -85,23 +85,23 @@ impl Table {
     /// ```
     ///
     /// A refusal is that of the whole comparison: of a text, or with [`Fault::Full`] where the nodes that both verdicts need together do not
-    /// fit, also where those of one of them would. A verdict that does not fall by the limit is
-    /// [`Verdict::Undecided`](crate::Verdict::Undecided), and all else is given:
+    /// fit, also where those of one of them would; [`Nodes`](crate::Nodes) tells what fills the table then. A verdict that does not fall by
+    /// the limit is [`Verdict::Undecided`](crate::Verdict::Undecided), and all else is given:
     ///
     /// ```
-    /// # use seipolku::{Fault, Table, Verdict};
+    /// # use seipolku::{Table, Verdict};
     /// let (left, right) = (b"000102000201\n", b"000103000001010202\n");
     /// let mut table = Table::new(4096).unwrap();
     /// let compared = table.compare(left, right, 1).unwrap();
     /// assert!(matches!(compared.strong, Verdict::Different { rounds: 1 }));
     /// assert!(matches!(compared.weak, Verdict::Undecided));
     /// assert_eq!(compared.right_steps(0, 0, 1), Ok(true));
-    /// assert_eq!(Table::new(386).unwrap().compare(left, right, 0).unwrap_err().fault, Fault::Full);
+    /// assert_eq!(Table::new(386).unwrap().compare(left, right, 0).unwrap_err().fault.number(), 8);
     /// ```
     pub fn compare(&mut self, left: &[u8], right: &[u8], limit: u64) -> Result<Comparison<'_>, Refusal> {
         let mut answer = [0; ffi::ANSWER_WORDS];
         match self.call([left, right], limit, &mut answer) {
-            ffi::REFUSED => Err(Refusal::of(answer[0], answer[1], answer[2])),
+            ffi::REFUSED => Err(Refusal::of_comparison(&answer)),
             _ => Ok(Comparison::of(self, answer)),
         }
     }

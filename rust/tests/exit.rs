@@ -96,11 +96,11 @@ fn looked_up() {
 #[test]
 fn verdicts() {
     let pairs = [
-        (LEAF, "000101", "strong different 1 | weak different 1 | 119"),
-        ("000102003E01/01020000", LEAF, "strong different 2 | weak different 2 | 956"),
-        ("000103000001013E02", LEAF, "strong different 1 | weak equal 3 | 1019"),
-        ("000102000201/01060000", "000103000201010202", "strong equal 3 | weak equal 3 | 1819"),
-        ("000102003E01/01060000/02060100", LEAF, "strong equal 2 | weak equal 2 | 991"),
+        (LEAF, "000101", "strong different 1 | weak different 1 | 21 76 119"),
+        ("000102003E01/01020000", LEAF, "strong different 2 | weak different 2 | 86 451 956"),
+        ("000103000001013E02", LEAF, "strong different 1 | weak equal 3 | 66 388 1019"),
+        ("000102000201/01060000", "000103000201010202", "strong equal 3 | weak equal 3 | 125 695 1819"),
+        ("000102003E01/01060000/02060100", LEAF, "strong equal 2 | weak equal 2 | 98 518 991"),
     ];
     for (left, right, expected) in pairs {
         let texts = [lines(left), lines(right)];

@@ -86,7 +86,7 @@ fn wide_leaves() {
     assert_eq!(model(still).unwrap().states, CODES);
     let mut table = Table::new(1 << 14).unwrap();
     let compared = table.compare(b"000101\n", still, LIMIT).unwrap();
-    assert_eq!(shown(&compared), "strong equal 1 | weak equal 1 | 14329");
+    assert_eq!(shown(&compared), "strong equal 1 | weak equal 1 | 114 11437 14329");
     assert_eq!(compared.strong.related(0, ALL_ONES), Ok(Some(true)));
     assert_eq!(compared.weak.related(ALL_ONES, 0), Ok(Some(true)));
 }

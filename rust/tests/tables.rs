@@ -27,10 +27,11 @@ fn lengths() {
         assert_eq!(Table::with_work(entries, 0).unwrap_err(), TableError::Length, "{entries}");
     }
     for entries in [14, 15, MAX_TABLE] {
-        assert_eq!(answer([b"000101\n"; 2], LIMIT, entries), "strong equal 1 | weak equal 1 | 12");
+        assert_eq!(answer([b"000101\n"; 2], LIMIT, entries), "strong equal 1 | weak equal 1 | 0 6 12");
     }
-    for entries in [2, 3, 13] {
-        assert_eq!(answer([b"000101\n"; 2], LIMIT, entries), "refused 8 2 0");
+    for (entries, numbers) in [(2, "0 0 0"), (3, "0 1 1"), (13, "0 6 11")] {
+        let expected = format!("refused 8 2 0 | {numbers}");
+        assert_eq!(answer([b"000101\n"; 2], LIMIT, entries), expected);
     }
     for work in [usize::MAX, usize::MAX / 4, isize::MAX as usize / 4] {
         assert_eq!(Table::with_work(2, work).unwrap_err(), TableError::Memory, "{work}");
@@ -42,8 +43,8 @@ fn work_memory_changes_no_answer() {
     for work in [0, 1, 5, 1000, 9001] {
         let mut table = Table::with_work(4096, work).unwrap();
         let p9: [&[u8]; 2] = [b"000102000201\n0106000001\n", b"000102000201\n"];
-        assert_eq!(shown(&compare(&mut table, p9, LIMIT)), "strong equal 2 | weak equal 2 | 649");
-        assert_eq!(shown(&compare(&mut table, P7, 1)), "strong refused 9 2 0 | weak equal 1 | 495");
+        assert_eq!(shown(&compare(&mut table, p9, LIMIT)), "strong equal 2 | weak equal 2 | 74 311 649");
+        assert_eq!(shown(&compare(&mut table, P7, 1)), "strong refused 9 2 0 | weak equal 1 | 101 351 495");
     }
 }
 
@@ -102,7 +103,7 @@ fn steps_of_both_models() {
         for entries in [4096, nodes + 2] {
             let mut table = Table::new(entries).unwrap();
             let compared = compare(&mut table, P2, limit);
-            assert_eq!(compared.nodes, nodes as u64);
+            assert_eq!(compared.nodes.whole, nodes as u64);
             check_steps(&compared);
         }
     }

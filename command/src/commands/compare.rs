@@ -9,8 +9,9 @@ use crate::outcome::{counted, fail, Answer, Failure, Outcome, DIFFERENT, EQUAL, 
 use crate::progress;
 use crate::proved::{self, ENTRIES, LIMIT};
 use crate::refusals::{self, Call, UNDECIDED};
+use crate::stages;
 use crate::words::word;
-use seipolku::{Comparison, Mode, Refusal, Side, Verdict};
+use seipolku::{Comparison, Mode, Nodes, Refusal, Side, Verdict};
 use std::path::Path;
 use std::time::Duration;
 
@@ -104,6 +105,14 @@ fn verdict_word(verdict: Verdict<'_>) -> &'static str {
     }
 }
 
+fn json_nodes(nodes: Nodes) -> String {
+    json::object(&[
+        ("relations", nodes.relations.to_string()),
+        ("answers", nodes.answers.to_string()),
+        ("whole", nodes.whole.to_string()),
+    ])
+}
+
 fn line(name: &str, verdict: &str, detail: &str) -> String {
     format!("{name:<6}  {verdict:<9}  {detail}\n")
 }
@@ -121,7 +130,15 @@ impl Compared<'_> {
         self.basis.as_ref().map_or(&[], |basis| &basis.notes)
     }
 
-    /// A line for each verdict that is shown, then one for what both needed; or one for the refusal of both.
+    /// Where the nodes went: of an answer, and of the refusal that is due where they don't fit.
+    fn nodes(&self) -> Option<Nodes> {
+        match &self.answer {
+            Ok(both) => Some(both.nodes),
+            Err(refused) => refused.refusal.nodes(),
+        }
+    }
+
+    /// A line for each verdict that is shown, then one for what both needed; or one for the refusal of both. Below stands where the nodes went.
     fn words(&self) -> String {
         let seconds = self.time.as_secs_f64();
         let mut text = match &self.answer {
@@ -135,13 +152,23 @@ impl Compared<'_> {
                     .iter()
                     .map(|mode| self.verdict_line(*mode, both.verdict(*mode)))
                     .collect();
-                format!("{lines}{:<6}  {}, {seconds:.3} s\n", "both", counted(both.nodes, "node"))
+                format!("{lines}{:<6}  {}, {seconds:.3} s\n", "both", counted(both.nodes.whole, "node"))
             }
         };
+        text += &self.stages();
         if let Some(explanation) = self.explanation() {
             text += &format!("\n{explanation}");
         }
         text
+    }
+
+    /// A line for each stage where it is known how many nodes went there.
+    fn stages(&self) -> String {
+        match (self.nodes(), self.answer.is_ok()) {
+            (Some(nodes), true) => stages::table(nodes),
+            (Some(nodes), false) => stages::full_table(nodes),
+            (None, _) => String::new(),
+        }
     }
 
     fn verdict_line(&self, mode: Mode, verdict: Verdict<'_>) -> String {
@@ -177,7 +204,8 @@ impl Compared<'_> {
             ("limit", self.call.limit.to_string()),
             ("channels", self.basis.as_ref().map_or_else(null, |basis| json::string(basis.json()))),
             ("answers", json::array(&answers)),
-            ("nodes", self.answer.as_ref().map_or_else(|_| null(), |both| both.nodes.to_string())),
+            ("nodes", self.answer.as_ref().map_or_else(|_| null(), |both| both.nodes.whole.to_string())),
+            ("nodes_up_to", self.nodes().map_or_else(null, json_nodes)),
             ("seconds", format!("{:.6}", self.time.as_secs_f64())),
             ("notes", json::array(&notes)),
             ("status", self.status().to_string()),

@@ -1,7 +1,7 @@
 //! What the tests share: the stored vectors, an answer in their words, and all steps of a model.
 #![allow(dead_code)]
 
-use seipolku::{model, Comparison, Refusal, Side, Table, Verdict};
+use seipolku::{model, Comparison, Nodes, Refusal, Side, Table, Verdict};
 use std::fs;
 use std::path::PathBuf;
 
@@ -55,16 +55,30 @@ pub fn text(field: &str) -> Vec<u8> {
 /// The answer of a comparison on a table of its own, in the words of a vector.
 pub fn answer(texts: [&[u8]; 2], limit: u64, entries: usize) -> String {
     let mut table = Table::new(entries).unwrap();
-    let compared = table.compare(texts[0], texts[1], limit);
-    match compared {
-        Ok(compared) => shown(&compared),
-        Err(refusal) => refused(&refusal),
+    let found = table.compare(texts[0], texts[1], limit);
+    compared(&found)
+}
+
+/// An answer or a refusal, in the words of a vector.
+pub fn compared(found: &Result<Comparison<'_>, Refusal>) -> String {
+    match found {
+        Ok(compared) => shown(compared),
+        Err(refusal) => refused(refusal),
     }
+}
+
+/// Where the nodes went, as far as it is told.
+pub fn nodes_of(found: &Result<Comparison<'_>, Refusal>) -> Option<Nodes> {
+    found.as_ref().map_or_else(Refusal::nodes, |compared| Some(compared.nodes))
 }
 
 pub fn shown(compared: &Comparison<'_>) -> String {
     let Comparison { strong, weak, nodes, .. } = compared;
-    format!("strong {} | weak {} | {nodes}", verdict(strong), verdict(weak))
+    format!("strong {} | weak {} | {}", verdict(strong), verdict(weak), numbers(nodes))
+}
+
+fn numbers(nodes: &Nodes) -> String {
+    format!("{} {} {}", nodes.relations, nodes.answers, nodes.whole)
 }
 
 fn verdict(verdict: &Verdict<'_>) -> String {
@@ -81,7 +95,8 @@ fn refused(refusal: &Refusal) -> String {
         Side::Right => 1,
         Side::Neither => 2,
     };
-    format!("refused {} {side} {}", refusal.fault.number(), refusal.line)
+    let nodes = refusal.nodes().map_or(String::new(), |nodes| format!(" | {}", numbers(&nodes)));
+    format!("refused {} {side} {}{nodes}", refusal.fault.number(), refusal.line)
 }
 
 /// A text whose lines have `/` between them.
