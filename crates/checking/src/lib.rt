@@ -1,4 +1,6 @@
 // Reads left.hex and right.hex, compares the models, and prints the strong and the weak verdict.
+#![tactic(auto)]
+
 ghost use Rattle.std.specs.Prelude.{◌≡◌, ◌≤◌, length};
 ghost use Rattle.verdicts.specs.Bisimulation.{strong, weak};
 ghost use Rattle.verdicts.specs.Contract.{values_of_verdict};
@@ -19,7 +21,7 @@ const LENGTH: usize = 4096;
 const LIMIT: u64 = 1000000;
 
 // What the line of one mode says.
-#[derive(Drop)]
+#[derive(Clone, Copy)]
 pub enum Line {
     Equal { rounds: u64, nodes: u32 },
     Different { rounds: u64, nodes: u32 },
@@ -27,7 +29,7 @@ pub enum Line {
 }
 
 // What both lines say.
-#[derive(Drop)]
+#[derive(Clone, Copy)]
 pub struct Lines {
     pub strong: Line,
     pub weak: Line,

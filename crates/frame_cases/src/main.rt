@@ -1,6 +1,7 @@
 // Reads texts of every kind, good and bad, and prints what reading answers: "accepted" with the lines, and
 // the bits, leaf uses and states of the last line; or "refused" with the number and the line. Below it the same of the text read in pieces. Then the lines of
 // texts, through the reader.
+#![tactic(auto)]
 mod lines;
 mod pieces;
 

@@ -14,7 +14,7 @@ const NEWLINE: u8 = 10;
 const MOST: usize = 64;
 
 // The lines accepted, the state of the line that goes on, whether it has begun, and the number of the first refusal (0: there is none).
-#[derive(Drop)]
+#[derive(Clone, Copy)]
 struct Progress {
     summary: Summary,
     decoder: Decoder,

@@ -6,7 +6,7 @@ ghost use Rattle.frames.specs.Bytes.{hex_value};
 pub const MAX_BYTES: usize = 255;
 
 // What decoding answers: so many bytes; a byte that is no digit, or a digit alone; or too many bytes.
-#[derive(Drop)]
+#[derive(Clone, Copy)]
 pub enum Decoding {
     Bytes(usize),
     Stray,
@@ -14,7 +14,7 @@ pub enum Decoding {
 }
 
 // The answer, with the bytes; past them, and where there are none, zeros.
-#[derive(Drop)]
+#[derive(Clone, Copy)]
 pub struct Decoded {
     pub answer: Decoding,
     pub bytes: [u8; 255],

@@ -12,7 +12,7 @@ const TOO_MANY: usize = 256;
 
 // All that is kept of the bytes read so far: whether one was no digit, the digit that waits for its second (16: none does), how many bytes were
 // spelt (256: more than 255), and the first 255 of these, a stray byte read as a 0, with zeros after them.
-#[derive(Drop)]
+#[derive(Clone, Copy)]
 pub struct Decoder {
     pub stray: bool,
     pub half: u8,

@@ -1,5 +1,6 @@
 // For stored pairs, prints the lines of the program with other limits than the program's, so that 9 stands on one line or on both. The stored
 // output was made by the independent program.
+#![tactic(auto)]
 use libc::STDOUT_FILENO;
 
 fn show(name: &[u8], left: &[u8], right: &[u8], limit: u64) {

@@ -7,7 +7,7 @@ use nodes::lookup::{Looked, look_up};
 use nodes::room::Room;
 
 // The entries of the functions, and the room that they leave.
-#[derive(Drop)]
+#[derive(Clone, Copy)]
 pub struct Roots {
     pub five: u32,
     pub six: u32,

@@ -1,4 +1,5 @@
 // Look-ups over tables made by hand, in order and not, and over one that the operations built: a line a case, its name and the answer.
+#![tactic(auto)]
 mod built;
 
 use nodes::lookup::{Looked, look_up};

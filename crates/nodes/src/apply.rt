@@ -12,7 +12,7 @@ use super::computed::{recall, remember, slot_for};
 use super::limits::MAX_LENGTH;
 use super::unique::{Found, Made, make};
 
-#[derive(Drop)]
+#[derive(Clone, Copy)]
 pub enum Settled {
     Is(u32),
     Open,
@@ -162,7 +162,7 @@ pub(crate) fn high_cofactor(packed: &[u32], high: &[u32], f: u32, v: u8) -> u32
     }
 }
 
-#[derive(Drop)]
+#[derive(Clone, Copy)]
 pub struct Split {
     pub v: u8,
     pub f0: u32,

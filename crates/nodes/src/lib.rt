@@ -3,6 +3,8 @@
 // stand before it and have larger levels. `work` has the index and the memory of results: any length, any content.
 // Only this crate knows that layout and makes a `Room`. Others begin with `start`, work with `calls`, `levels`, `single` and
 // `zero`, each call taking the room that the last one left, and end with `unpack`, which leaves document 01's three slices.
+#![tactic(auto)]
+
 pub mod apply;
 pub mod calls;
 pub mod computed;

@@ -7,7 +7,7 @@ use super::levels::digit_at;
 use super::limits::{CODES, LAST_LEVEL, MAX_LENGTH};
 
 // What a look_up answers: the value at the end of its walk, or a refusal.
-#[derive(Drop)]
+#[derive(Clone, Copy)]
 pub enum Looked {
     Value(u8),
     Turned(u8),

@@ -14,7 +14,7 @@ use super::unique::{Made, make};
 use super::work::{memory_at, slots};
 
 // The entries of a function with a level fixed to 0, fixed to 1, and of the ∨ of the two.
-#[derive(Drop)]
+#[derive(Clone, Copy)]
 pub struct Trio {
     pub zero: u32,
     pub one: u32,
@@ -22,13 +22,13 @@ pub struct Trio {
 }
 
 // The answer of ∃: the entries with the number of entries then in use, or that the table is too short.
-#[derive(Drop)]
+#[derive(Clone, Copy)]
 pub enum Three {
     At(Trio, u32),
     Full,
 }
 
-#[derive(Drop)]
+#[derive(Clone, Copy)]
 pub enum Held {
     At(Trio),
     Nothing,

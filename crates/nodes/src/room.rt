@@ -8,7 +8,7 @@ use super::unique::Made;
 
 // How many entries are in use, whether a node did not fit, and the entry of the last result. Once the
 // room is full, calls do nothing.
-#[derive(Drop)]
+#[derive(Clone, Copy)]
 pub struct Room {
     pub used: u32,
     pub full: bool,

@@ -11,21 +11,21 @@ use super::work::{covered, covers, hash, hashes};
 
 // The answer of an operation: the entry of its result with the number of entries then in use, or
 // that the table is too short.
-#[derive(Drop)]
+#[derive(Clone, Copy)]
 pub enum Made {
     At(u32, u32),
     Full,
 }
 
 // What the step that makes a node says of it: it was found, it is new, or there is no entry for it.
-#[derive(Drop)]
+#[derive(Clone, Copy)]
 pub enum MadeNode {
     Found(u32),
     New(u32),
     Full,
 }
 
-#[derive(Drop)]
+#[derive(Clone, Copy)]
 pub enum Found {
     At(u32),
     Nothing,

@@ -1,4 +1,6 @@
 // The library for C and Rust: thin exports of the comparison, the look_up and what a text's model is. A slice is a pointer and a length.
+#![tactic(auto)]
+
 pub mod model;
 
 ghost use Rattle.std.specs.Prelude.{◌≡◌, ◌+◌, ◌≤◌, length};
@@ -14,7 +16,7 @@ use verdicts::{Answer, Nodes, Verdict};
 const WORDS: usize = 12;
 
 // The three words of a verdict.
-#[derive(Drop)]
+#[derive(Clone, Copy)]
 struct VerdictWords {
     number: u64,
     rounds: u64,

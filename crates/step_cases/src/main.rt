@@ -1,6 +1,7 @@
 // For stored models, prints the derived steps that the relation shows: a model is compared with itself, and for every two states and action
 // there is a look-up from the relation's root. A code is a state's where the last strong iterate relates it to itself. The stored output was made by
 // the independent program.
+#![tactic(auto)]
 use libc::STDOUT_FILENO;
 use nodes::lookup::{Looked, look_up};
 use verdicts::compare::compare;
