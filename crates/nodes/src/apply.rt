@@ -1,7 +1,7 @@
 // ∧, ∨, ¬ and fixing a level by one recursion over the entries of the operands.
 ghost use Rattle.std.specs.Prelude.{◌≡◌, cond, ◌≤◌, ◌<◌, min, max, length, get_or};
 ghost use Rattle.nodes.specs.Fun.{both, either, negated};
-ghost use Rattle.nodes.specs.internal.Packed.{levels, lows};
+ghost use Rattle.nodes.specs.internal.Packed.{packed_table, levels, lows};
 ghost use Rattle.nodes.specs.internal.Operate.{operation, turns_of, last_operation, Operands, SettlesBy, Settles, cofactor_of, Splits, Finishing, Helping, Operating};
 ghost use Rattle.nodes.specs.Table.{constant_level, den};
 ghost use Rattle.nodes.specs.internal.Index.{Indexing};
@@ -73,9 +73,9 @@ fn settle_not(f: u32, g: u32) -> Settled
 }
 
 fn settle_fix(packed: &[u32], high: &[u32], used: u32, op: u32, f: u32, g: u32) -> Settled
-    requires operands { Operands (table_of packed high used) op f g }
+    requires operands { Operands (packed_table packed.now high.now used) op f g }
     requires le_op { 3 ≤ op }
-    ensures { Settles (table_in packed high used) op f g result }
+    ensures { Settles (packed_table packed.now high.now used) op f g result }
 {
     if f < 2 {
         return Settled::Is(f);
@@ -100,8 +100,8 @@ fn settle_fix(packed: &[u32], high: &[u32], used: u32, op: u32, f: u32, g: u32) 
 
 // The answer where it is an entry at hand.
 fn settle(packed: &[u32], high: &[u32], used: u32, op: u32, f: u32, g: u32) -> Settled
-    requires { Operands (table_of packed high used) op f g }
-    ensures { Settles (table_in packed high used) op f g result }
+    requires { Operands (packed_table packed.now high.now used) op f g }
+    ensures { Settles (packed_table packed.now high.now used) op f g result }
 {
     if op == 0 {
         return settle_and(f, g);
@@ -173,9 +173,9 @@ pub struct Split {
 
 // A node and an entry, with the smaller one of their levels fixed to each bit.
 fn split_at_top(packed: &[u32], high: &[u32], used: u32, op: u32, f: u32, g: u32) -> Split
-    requires operands { Operands (table_of packed high used) op f g }
+    requires operands { Operands (packed_table packed.now high.now used) op f g }
     requires le_f { 2 ≤ f }
-    ensures { Splits (table_in packed high used) f g result }
+    ensures { Splits (packed_table packed.now high.now used) f g result }
 {
     let v = smaller(level_of(packed, f), level_of(packed, g));
     Split {

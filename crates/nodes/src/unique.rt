@@ -4,6 +4,7 @@ ghost use Rattle.nodes.specs.internal.Parts.{links_in, heads_in};
 ghost use Rattle.nodes.specs.Table.{max_length, WellFormed};
 ghost use Rattle.nodes.specs.internal.Index.{coverage, Indexing, InIndex, Begins, LinkingAt};
 ghost use Rattle.nodes.specs.internal.Make.{Makeable, FindsFrom, FindsBelow, Finds, MakingNode, Making, node_fun};
+ghost use Rattle.nodes.specs.internal.Packed.{packed_table};
 ghost use Rattle.nodes.specs.internal.Lent.{table_of, table_in};
 
 use super::limits::MAX_LENGTH;
@@ -45,9 +46,9 @@ fn head_of(work: &[u32], v: u8, lo: u32, hi: u32) -> usize
 
 // The node of level v with children lo and hi, if it is one of the entries from `from` on.
 fn find_from(packed: &[u32], high: &[u32], used: u32, from: usize, v: u8, lo: u32, hi: u32) -> Found
-    requires well_formed { WellFormed (table_of packed high used) }
+    requires well_formed { WellFormed (packed_table packed.now high.now used) }
     requires lo_lt_max_length { lo < max_length }
-    ensures { FindsFrom from (table_in packed high used) v lo hi result }
+    ensures { FindsFrom from (packed_table packed.now high.now used) v lo hi result }
 {
     if (used as usize) <= from {
         return Found::Nothing;
@@ -80,11 +81,11 @@ fn find_chained(
     lo: u32,
     hi: u32,
 ) -> Found
-    requires well_formed { WellFormed (table_of packed high used) }
-    requires indexing { Indexing (table_of packed high used) work.now }
+    requires well_formed { WellFormed (packed_table packed.now high.now used) }
+    requires indexing { Indexing (packed_table packed.now high.now used) work.now }
     requires begins { Begins work.now v lo hi head }
     requires lo_lt_max_length { lo < max_length }
-    ensures { FindsBelow (coverage (heads_in work.now) (links_in work.now)) (table_in packed high used) v lo hi result }
+    ensures { FindsBelow (coverage (heads_in work.now) (links_in work.now)) (packed_table packed.now high.now used) v lo hi result }
 {
     if head == 0 {
         return Found::Nothing;
@@ -114,11 +115,11 @@ fn find(
     lo: u32,
     hi: u32,
 ) -> Found
-    requires well_formed { WellFormed (table_of packed high used) }
-    requires indexing { Indexing (table_of packed high used) work.now }
+    requires well_formed { WellFormed (packed_table packed.now high.now used) }
+    requires indexing { Indexing (packed_table packed.now high.now used) work.now }
     requires begins { Begins work.now v lo hi head }
     requires lo_lt_max_length { lo < max_length }
-    ensures { Finds (table_in packed high used) v lo hi result }
+    ensures { Finds (packed_table packed.now high.now used) v lo hi result }
 {
     match find_chained(packed, high, work, used, head, v, lo, hi) {
         Found::At(i) => Found::At(i),

@@ -1,6 +1,7 @@
 // The value where every variable is 0.
 ghost use Rattle.std.specs.Prelude.{◌≡◌};
 ghost use Rattle.nodes.specs.Table.{WellFormed};
+ghost use Rattle.nodes.specs.internal.Packed.{packed_table};
 ghost use Rattle.nodes.specs.internal.Lent.{table_of, table_in};
 ghost use Rattle.nodes.specs.internal.Zero.{holds_at_zero};
 
@@ -8,8 +9,8 @@ use super::limits::MAX_LENGTH;
 
 // Whether root is an entry in use whose function holds where every variable is 0: the walk goes by low children.
 pub fn holds_at_zero(packed: &[u32], high: &[u32], used: u32, root: u32) -> bool
-    requires { WellFormed (table_of packed high used) }
-    ensures { result ≡ holds_at_zero (table_in packed high used) root }
+    requires { WellFormed (packed_table packed.now high.now used) }
+    ensures { result ≡ holds_at_zero (packed_table packed.now high.now used) root }
 {
     if used <= root {
         return false;

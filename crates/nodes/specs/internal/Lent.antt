@@ -1,15 +1,15 @@
 -- The slices that a call is lent, as the clauses of a contract name them: at entry, and what a `&mut` one holds at exit. Assumes nothing.
 use Rattle.std.specs.Prelude.{List, ℕ}
-use Rattle.std.specs.Borrow.{Bor}
+use Rattle.std.specs.Borrow.{MutBor}
 use denote.Triple.Both.{Both}
 use Rattle.nodes.specs.declared.room.Room.{Room}
 use Rattle.nodes.specs.Table.{Table}
 use Rattle.nodes.specs.internal.Packed.{packed_table}
 use Rattle.nodes.specs.internal.Work.{Store, store}
 
--- a slice in a `requires`, and in an `ensures`
+-- a `&mut` slice in a `requires`, and in an `ensures`
 abbrev pub Slice : Type 0
-Slice = Bor (List ℕ)
+Slice = MutBor (List ℕ)
 
 abbrev pub Lent : Type 0
 Lent = Both Slice Slice

@@ -1,0 +1,11 @@
+-- `frames::line::line_end` meets its contract: the loop keeps that the line ends where the rest of it does.
+-- Assumes nothing.
+use Rattle.std.proofs.Common.{◌≡◌, ◌+◌, ◌-◌, length, drop}
+use Rattle.frames.specs.Line.{line_length}
+use Rattle.frames.proofs.line.line_end.Given as goal
+
+abbrev pub invariant-loop-i : goal.invariant-loop-i
+invariant-loop-i l = l.at + line_length (drop l.at l.text) ≡ l.i + line_length (drop l.i l.text)
+
+abbrev pub decreases-loop-i : goal.decreases-loop-i
+decreases-loop-i l = length l.text - l.i
