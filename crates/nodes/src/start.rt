@@ -1,6 +1,6 @@
 // How a table begins, and how it is left in the three slices of document 01.
 ghost use Rattle.std.specs.Prelude.{◌≡◌, false};
-ghost use Rattle.nodes.specs.internal.Lent.{table_in, leaving};
+ghost use Rattle.nodes.specs.internal.Lent.{leaving};
 ghost use Rattle.nodes.specs.internal.Packed.{packed_table};
 ghost use Rattle.nodes.specs.internal.Start.{Clear, Fits, Starts, Unpackable, Unpacked};
 ghost use Rattle.nodes.specs.Table.{WellFormed};
@@ -55,7 +55,7 @@ pub fn start(packed: &mut [u32], high: &mut [u32], work: &mut [u32]) -> Room
 // stay in `low`. Where the room is full, it does nothing.
 pub fn unpack(level: &mut [u8], low: &mut [u32], high: &[u32], room: Room)
     requires { Unpackable level.old low.old high.now room }
-    ensures { room.full ≡ false → Unpacked (table_in low high room.used) level.new low.new high.now }
+    ensures { room.full ≡ false → Unpacked (packed_table low.old high.now room.used) level.new low.new high.now }
 {
     if room.full {
         return;

@@ -1,0 +1,35 @@
+-- `nodes::settle_fix` meets its contract. Assumes nothing.
+use mathlib.Core.Path.{subst}
+use Prim.Native.Nat.{ℕ}
+use native.Mathlib.Omega.{arith}
+use Rattle.nodes.specs.declared.apply.Settled.TheVariants as settled
+use Rattle.nodes.specs.internal.Packed.{packed_table}
+use Rattle.nodes.specs.internal.Operate.{Settles}
+use Rattle.nodes.proofs.Parting.{levels_length, level_at, low_at}
+use Rattle.nodes.proofs.Operating.{fix_constant, fix_deeper, fix_high, fix_low}
+use Rattle.nodes.proofs.apply.settle_fix.Goals as goal
+
+pub returns-then-f-lt2 : goal.returns-then-f-lt2
+returns-then-f-lt2 c =
+    fix_constant _ _ _ _ c.requires.operands c.requires.le_op c.if-f-lt2.true
+
+pub bounds-packed-at : goal.bounds-packed-at
+bounds-packed-at c =
+    omega (arith, c.requires.operands.left, c.requires.operands.formed.room, levels_length c.args.packed.now)
+
+pub returns-then-l-v : goal.returns-then-l-v
+returns-then-l-v c =
+    (omega (arith, c.if-f-lt2.false), λ _. omega (arith, level_at c.args.packed.now c.args.f, c.if-l-v.true))
+
+pub returns-then-v-l : goal.returns-then-v-l
+returns-then-v-l c =
+    fix_deeper _ _ _ _ c.requires.operands c.requires.le_op (omega (arith, level_at c.args.packed.now c.args.f, c.if-v-l.true))
+
+pub returns-then-b-eq1 : goal.returns-then-b-eq1
+returns-then-b-eq1 c =
+    fix_high _ _ _ _ c.requires.operands c.requires.le_op c.if-b-eq1.true (omega (arith, c.if-f-lt2.false)) (omega (arith, level_at c.args.packed.now c.args.f, c.if-l-v.false, c.if-v-l.false))
+
+pub returns : goal.returns
+returns c =
+    subst (λ (k : ℕ). Settles (packed_table c.args.packed.now c.args.high.now c.args.used) c.args.op c.args.f c.args.g (settled.Is k)) (low_at c.args.packed.now c.args.f)
+    (fix_low _ _ _ _ c.requires.operands c.requires.le_op c.if-b-eq1.false (omega (arith, c.if-f-lt2.false)) (omega (arith, level_at c.args.packed.now c.args.f, c.if-l-v.false, c.if-v-l.false)))

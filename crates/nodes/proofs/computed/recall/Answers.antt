@@ -1,0 +1,10 @@
+-- `nodes::recall` meets its contract. Assumes nothing.
+use mathlib.Core.Path.{refl}
+use native.Mathlib.Omega.{arith}
+use Rattle.nodes.proofs.Holding.{work_holds}
+use Rattle.nodes.proofs.computed.recall.Goals as goal
+
+pub returns-then-work-at-3 : goal.returns-then-work-at-3
+returns-then-work-at-3 c =
+    let a = c.args in
+    work_holds a.work.now _ c.memory_at.ensures a.op a.f a.g _ a.s (omega (arith, c.if-slots-s.false, c.slots.ensures)) c.if-work-at.true c.if-work-at-2.true c.if-work-at-3.true refl
