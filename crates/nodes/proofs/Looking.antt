@@ -1,4 +1,4 @@
--- A look_up from an entry of a table in order gives the value of what the entry stands for. Assumes nothing.
+-- A look-up from an entry of a table in order gives the value of what the entry stands for. Assumes nothing.
 use mathlib.Core.Path.{◌≡◌, refl, sym, ap, ◌∙◌, subst}
 use mathlib.Core.Bool.{Bool, true, false, cond}
 use mathlib.Core.List.{[], ◌∷◌}
@@ -66,7 +66,7 @@ formed_fits s used formed =
     let most : leb (length s.level) max_length ≡ true = le-leb (length s.level) max_length formed.most in
     rw (low, high, least, most) refl
 
--- In a table in order no look_up from an entry in use is refused, and it gives the value of what the entry stands for.
+-- In a table in order no look-up from an entry in use is refused, and it gives the value of what the entry stands for.
 pub looks_up : (s : Slices) (used : ℕ) → WellFormed (table s.level s.low s.high used) → (root α x x' y y' : ℕ) → root < used
     → small α x x' y y' ≡ true → look_up s root α x x' y y' ≡ ending (den (table s.level s.low s.high used) root (looked_up α x x' y y'))
 unfolding look_up

@@ -1,4 +1,4 @@
--- The walk of a look_up, an entry at a time. Assumes nothing.
+-- The walk of a look-up, an entry at a time. Assumes nothing.
 use mathlib.Core.Path.{◌≡◌, refl, sym, ◌∙◌}
 use mathlib.Core.Bool.{Bool, true, false, cond}
 use Prim.Native.Nat.{ℕ, zero, suc, ◌+◌, ◌-◌, ◌≤◌, ◌<◌}
@@ -74,7 +74,7 @@ module _ (s : Slices) (a : Assignment) (from : ℕ) where
         → walk_from n s a from i ≡ walk_from (n - 1) s a (get_or s.level i 0 + 1) child
     walk_down e t f = walk_step n i m two h l u ∙ rw (sym e ∙ t, f) refl
 
--- ---- the whole look_up, by its two tests b and c
+-- ---- the whole look-up, by its two tests b and c
 
 pub fit_lengths : (s : Slices) {b : Bool} → b ≡ table_fits s → b ≡ true → (length s.low ≡ length s.level) × (length s.high ≡ length s.level)
 unfolding table_fits

@@ -1,4 +1,4 @@
--- A look_up in a table: a root, an action and four state codes. Assumes nothing.
+-- A look-up in a table: a root, an action and four state codes. Assumes nothing.
 use Rattle.std.specs.Prelude.{Bool, true, false, cond, ◌&&◌, List, [], ◌∷◌, ℕ, zero, suc, ◌+◌, ◌-◌, ◌/◌, ◌%◌, ◌^◌, ltb, leb, eqb, length, get_or}
 use Rattle.nodes.specs.declared.lookup.Looked.{Looked}
 use Rattle.nodes.specs.declared.lookup.Looked.TheVariants.{Value, Turned}
@@ -22,7 +22,7 @@ table_fits s =
     eqb (length s.low) (length s.level) && (eqb (length s.high) (length s.level)
     && (leb 2 (length s.level) && leb (length s.level) max_length))
 
--- ---- the assignment of a look_up: an action and four state codes; middle bits are 0
+-- ---- the assignment of a look-up: an action and four state codes; middle bits are 0
 
 -- left now and next, right now and next: the code in a slot
 abbrev pub slot_code : ℕ → ℕ → ℕ → ℕ → ℕ → ℕ
@@ -69,7 +69,7 @@ walk_from (suc n) s a from (suc (suc k)) =
     cond (ltb i (length s.level) && (leb from v && leb v last_level))
     (walk_from n s a (suc v) (cond (a v) (get_or s.high i 0) (get_or s.low i 0))) (Turned 10)
 
--- The answer of a look_up: 7, then 10, else the value. Levels rise, so a walk meets at most a node of each level and an end.
+-- The answer of a look-up: 7, then 10, else the value. Levels rise, so a walk meets at most a node of each level and an end.
 unfoldable pub look_up : Slices → ℕ → ℕ → ℕ → ℕ → ℕ → ℕ → Looked
 look_up s root α x x' y y' =
     cond (table_fits s) (cond (small α x x' y y') (walk_from (last_level + 2) s (looked_up α x x' y y') 0 root) (Turned 10)) (Turned 7)

@@ -1,4 +1,4 @@
-// A look_up in a node table: a walk from a root by the bits of an action and four state codes.
+// A look-up in a node table: a walk from a root by the bits of an action and four state codes.
 ghost use Rattle.std.specs.Prelude.{◌≡◌, ◌+◌, length};
 ghost use Rattle.nodes.specs.Table.{last_level};
 ghost use Rattle.nodes.specs.Lookup.{slices, table_fits, small, looked_up, walk_from, look_up};
@@ -6,7 +6,7 @@ ghost use Rattle.nodes.specs.Lookup.{slices, table_fits, small, looked_up, walk_
 use super::levels::digit_at;
 use super::limits::{CODES, LAST_LEVEL, MAX_LENGTH};
 
-// What a look_up answers: the value at the end of its walk, or a refusal.
+// What a look-up answers: the value at the end of its walk, or a refusal.
 #[derive(Clone, Copy)]
 pub enum Looked {
     Value(u8),
@@ -48,7 +48,7 @@ fn values_fit(action: u64, x: u64, x1: u64, y: u64, y1: u64) -> bool
     y1 < CODES
 }
 
-// The bit of a look_up at level v: the action's, or that of the code in the level's slot. Middle bits are 0.
+// The bit of a look-up at level v: the action's, or that of the code in the level's slot. Middle bits are 0.
 fn bit_at(v: u8, action: u64, x: u64, x1: u64, y: u64, y1: u64) -> bool
     ensures { result ≡ looked_up action x x1 y y1 v }
 {

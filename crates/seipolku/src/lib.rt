@@ -1,4 +1,4 @@
-// The library for C and Rust: thin exports of the comparison, the look_up and what a text's model is. A slice is a pointer and a length.
+// The library for C and Rust: thin exports of the comparison, the look-up and what a text's model is. A slice is a pointer and a length.
 #![tactic(auto)]
 
 pub mod model;
