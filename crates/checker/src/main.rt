@@ -1,5 +1,8 @@
 // Reads left.hex and right.hex, compares the models, and prints the strong and the weak verdict.
 #![tactic(auto)]
-fn main() {
-    checking::run();
+
+use std::io;
+
+fn main(rt: HostRuntime) -> io::Result<()> {
+    checking::run(&rt)
 }

@@ -7,7 +7,9 @@ ghost use Rattle.verdicts.specs.Contract.{values_of_verdict};
 ghost use Rattle.checking.specs.Program.{round_limit, verdict_line, line_in, Printed};
 ghost use Rattle.checking.specs.declared.Line.TheVariants.{Refused};
 
-use libc::STDOUT_FILENO;
+use std::io::Read;
+use std::rt::Files;
+use std::{fs, io};
 use verdicts::compare::compare;
 use verdicts::{Answer, Verdict};
 
@@ -35,36 +37,33 @@ pub struct Lines {
     pub weak: Line,
 }
 
-fn say(text: &[u8]) {
-    io::write_all(STDOUT_FILENO, text);
+fn say(rt: &impl Print, text: &[u8]) -> io::Result<()> {
+    rt.write_all(text)
 }
 
-fn number(n: u64) {
-    say(b" ");
-    io::print_decimal(STDOUT_FILENO, n);
+fn number(rt: &impl Print, n: u64) -> io::Result<()> {
+    print!(rt; " {n}")
 }
 
 // One read into buf from `done` on: how many bytes buf then has; all of it where the read fails.
-fn read_some(fd: i32, buf: &mut [u8], done: usize) -> usize
+fn read_some<R: Read>(file: &mut R, buf: &mut [u8], done: usize) -> usize
     requires { done ≤ length buf.old }
     ensures { (done ≤ result) × (result ≤ length buf.old) }
 {
     let most = buf.len();
-    let rest = &mut buf[done..];
-    let got = libc::read(fd, rest);
-    if got < 0 {
-        return most;
+    match file.read(&mut buf[done..]) {
+        Ok(count) => done + count,
+        Err(_) => most,
     }
-    done + io::count(got, rest)
 }
 
 // Reads to the input's end: how many bytes there are; the length of buf where they do not end before that, or a read fails.
-fn read_rest(fd: i32, buf: &mut [u8]) -> usize
+fn read_rest<R: Read>(file: &mut R, buf: &mut [u8]) -> usize
     ensures { result ≤ length buf.old }
 {
     let mut done = 0;
     while done < buf.len() {
-        let next = read_some(fd, buf, done);
+        let next = read_some(file, buf, done);
         if next == done {
             return done;
         }
@@ -74,16 +73,13 @@ fn read_rest(fd: i32, buf: &mut [u8]) -> usize
 }
 
 // How many bytes a file has, which are then in buf; the length of buf where it has as many, or can't be read.
-fn read_file(path: &[u8], buf: &mut [u8]) -> usize
+fn read_file(rt: &impl Files, path: &str, buf: &mut [u8]) -> usize
     ensures { result ≤ length buf.old }
 {
-    let fd = os::open_read(path);
-    if fd < 0 {
-        return buf.len();
+    match fs::open(rt, path) {
+        Ok(mut file) => read_rest(&mut file, buf),
+        Err(_) => buf.len(),
     }
-    let n = read_rest(fd, buf);
-    libc::close(fd);
-    n
 }
 
 // What a verdict's line says, with the nodes of its comparison.
@@ -153,64 +149,62 @@ fn compare_texts(left: &[u8], right: &[u8]) -> Lines
 }
 
 // Prints the rest of a line: a verdict with its rounds and nodes, or a refusal.
-fn print_line(line: Line) {
+fn print_line(rt: &impl Print, line: Line) -> io::Result<()> {
     match line {
         Line::Equal { rounds, nodes } => {
-            say(b" equal");
-            number(rounds);
-            number(nodes as u64);
+            say(rt, b" equal")?;
+            number(rt, rounds)?;
+            number(rt, nodes as u64)?;
         }
         Line::Different { rounds, nodes } => {
-            say(b" different");
-            number(rounds);
-            number(nodes as u64);
+            say(rt, b" different")?;
+            number(rt, rounds)?;
+            number(rt, nodes as u64)?;
         }
         Line::Refused {
             number: n,
             side,
             line: l,
         } => {
-            say(b" refused");
-            number(n as u64);
-            number(side as u64);
-            number(l as u64);
+            say(rt, b" refused")?;
+            number(rt, n as u64)?;
+            number(rt, side as u64)?;
+            number(rt, l as u64)?;
         }
     }
-    say(b"\n");
+    say(rt, b"\n")
 }
 
-fn print_lines(lines: Lines) {
+fn print_lines(rt: &impl Print, lines: Lines) -> io::Result<()> {
     let strong = lines.strong;
     let weak = lines.weak;
-    say(b"strong");
-    print_line(strong);
-    say(b"weak");
-    print_line(weak);
+    say(rt, b"strong")?;
+    print_line(rt, strong)?;
+    say(rt, b"weak")?;
+    print_line(rt, weak)
 }
 
-fn print_texts(left: &[u8], right: &[u8]) {
-    print_lines(compare_texts(left, right));
+fn print_texts(rt: &impl Print, left: &[u8], right: &[u8]) -> io::Result<()> {
+    print_lines(rt, compare_texts(left, right))
 }
 
 // Prints what the program would print of two texts with another limit. With the program's no line has a 9: so many different iterates need more
 // nodes than its table has.
-pub fn print_within(left: &[u8], right: &[u8], limit: u64) {
-    print_lines(compare_within(left, right, limit));
+pub fn print_within(rt: &impl Print, left: &[u8], right: &[u8], limit: u64) -> io::Result<()> {
+    print_lines(rt, compare_within(left, right, limit))
 }
 
 // The program of document 01, in the current folder: a strong line, then a weak one; or which file could not be read.
-pub fn run() {
+pub fn run(rt: &(impl Files + Print)) -> io::Result<()> {
     let mut left = [0u8; 32705];
     let mut right = [0u8; 32705];
-    let n = read_file(b"left.hex", &mut left);
+    let n = read_file(rt, "left.hex", &mut left);
     if MAX_TEXT < n {
-        say(b"no input left\n");
-        return;
+        return say(rt, b"no input left\n");
     }
-    let m = read_file(b"right.hex", &mut right);
+    let m = read_file(rt, "right.hex", &mut right);
     if MAX_TEXT < m {
-        say(b"no input right\n");
-        return;
+        return say(rt, b"no input right\n");
     }
-    print_texts(&left[..n], &right[..m]);
+    print_texts(rt, &left[..n], &right[..m])
 }

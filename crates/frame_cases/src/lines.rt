@@ -3,85 +3,90 @@
 use super::{number, say, text_of};
 use frames::line::LineState;
 use frames::reader::{after_from, digits_from, state_from};
+use std::io;
 
 const SHORT: usize = 16;
 
 // No text here has more lines.
 const MOST: usize = 66;
 
-fn digits(text: &[u8], at: usize) {
+fn digits(rt: &impl Print, text: &[u8], at: usize) -> io::Result<()> {
     let d = digits_from(text, at);
-    number(d.len() as u64);
+    number(rt, d.len() as u64)?;
     if d.len() <= SHORT {
-        say(b" \"");
-        say(d);
-        say(b"\"");
+        say(rt, b" \"")?;
+        say(rt, d)?;
+        say(rt, b"\"")?;
     }
+    Ok(())
 }
 
 // Prints the line at a place, and says whether there was one.
-fn line(text: &[u8], at: usize) -> bool {
+fn line(rt: &impl Print, text: &[u8], at: usize) -> io::Result<bool> {
     match state_from(text, at) {
         LineState::Ended => {
-            say(b" ended");
-            digits(text, at);
-            true
+            say(rt, b" ended")?;
+            digits(rt, text, at)?;
+            Ok(true)
         }
         LineState::Unended => {
-            say(b" unended");
-            digits(text, at);
-            true
+            say(rt, b" unended")?;
+            digits(rt, text, at)?;
+            Ok(true)
         }
         LineState::NoLine => {
-            say(b" none");
-            false
+            say(rt, b" none")?;
+            Ok(false)
         }
     }
 }
 
 // One text.
-fn lines(name: &[u8], text: &[u8]) {
-    say(b"reader, ");
-    say(name);
-    say(b":");
+fn lines(rt: &impl Print, name: &[u8], text: &[u8]) -> io::Result<()> {
+    say(rt, b"reader, ")?;
+    say(rt, name)?;
+    say(rt, b":")?;
     let mut at = 0;
     let mut left = true;
     for k in 0..MOST + 1 {
         if left {
-            left = line(text, at);
+            left = line(rt, text, at)?;
             at = after_from(text, at);
         }
     }
-    say(b"\n");
+    say(rt, b"\n")
 }
 
-fn case(c: &[u8]) {
-    lines(digits_from(c, 0), text_of(c));
+fn case(rt: &impl Print, c: &[u8]) -> io::Result<()> {
+    lines(rt, digits_from(c, 0), text_of(c))
 }
 
-fn short_texts() {
-    case(b"empty text\n");
-    case(b"one line\n000101\n");
-    case(b"lone newline\n\n");
-    case(b"empty lines\n\n\n000101\n\n");
-    case(b"unended rest\n000101\n0101");
-    case(b"unended and one digit\n0");
-    case(b"stray bytes\n0/0:x1\n00 1\n@G;\n0a0b");
+fn short_texts(rt: &impl Print) -> io::Result<()> {
+    case(rt, b"empty text\n")?;
+    case(rt, b"one line\n000101\n")?;
+    case(rt, b"lone newline\n\n")?;
+    case(rt, b"empty lines\n\n\n000101\n\n")?;
+    case(rt, b"unended rest\n000101\n0101")?;
+    case(rt, b"unended and one digit\n0")?;
+    case(rt, b"stray bytes\n0/0:x1\n00 1\n@G;\n0a0b")
 }
 
-fn long_texts() {
+fn long_texts(rt: &impl Print) -> io::Result<()> {
     case(
+        rt,
         b"0, 1, 510 and 512 digits\n\n0\n000102000201000201000201000201000201000201000201000201000201000201000201000201000201000201000201000201000201000201000201000201000201000201000201000201000201000201000201000201000201000201000201000201000201000201000201000201000201000201000201000201000201000201000201000201000201000201000201000201000201000201000201000201000201000201000201000201000201000201000201000201000201000201000201000201000201000201000201000201000201000201000201000201000201000201000201000201000201000201000201000201000201000201000201000201\n00030101010101010101010101010101010101010101010101010101010101010101010101010101010101010101010101010101010101010101010101010101010101010101010101010101010101010101010101010101010101010101010101010101010101010101010101010101010101010101010101010101010101010101010101010101010101010101010101010101010101010101010101010101010101010101010101010101010101010101010101010101010101010101010101010101010101010101010101010101010101010101010101010101010101010101010101010101010101010101010101010101010101010101010101010101\n00030101010101010101010101010101010101010101010101010101010101010101010101010101010101010101010101010101010101010101010101010101010101010101010101010101010101010101010101010101010101010101010101010101010101010101010101010101010101010101010101010101010101010101010101010101010101010101010101010101010101010101010101010101010101010101010101010101010101010101010101010101010101010101010101010101010101010101010101010101010101010101010101010101010101010101010101010101010101010101010101010101010101010101010101010101",
-    );
+    )?;
     case(
+        rt,
         b"64 lines\n000101\n010101\n020101\n030101\n040101\n050101\n060101\n070101\n080101\n090101\n0A0101\n0B0101\n0C0101\n0D0101\n0E0101\n0F0101\n100101\n110101\n120101\n130101\n140101\n150101\n160101\n170101\n180101\n190101\n1A0101\n1B0101\n1C0101\n1D0101\n1E0101\n1F0101\n200101\n210101\n220101\n230101\n240101\n250101\n260101\n270101\n280101\n290101\n2A0101\n2B0101\n2C0101\n2D0101\n2E0101\n2F0101\n300101\n310101\n320101\n330101\n340101\n350101\n360101\n370101\n380101\n390101\n3A0101\n3B0101\n3C0101\n3D0101\n3E0101\n3F0101\n",
-    );
+    )?;
     case(
+        rt,
         b"65 lines and a digit\n000101\n010101\n020101\n030101\n040101\n050101\n060101\n070101\n080101\n090101\n0A0101\n0B0101\n0C0101\n0D0101\n0E0101\n0F0101\n100101\n110101\n120101\n130101\n140101\n150101\n160101\n170101\n180101\n190101\n1A0101\n1B0101\n1C0101\n1D0101\n1E0101\n1F0101\n200101\n210101\n220101\n230101\n240101\n250101\n260101\n270101\n280101\n290101\n2A0101\n2B0101\n2C0101\n2D0101\n2E0101\n2F0101\n300101\n310101\n320101\n330101\n340101\n350101\n360101\n370101\n380101\n390101\n3A0101\n3B0101\n3C0101\n3D0101\n3E0101\n3F0101\n400101\n0",
-    );
+    )
 }
 
-pub fn all() {
-    short_texts();
-    long_texts();
+pub fn all(rt: &impl Print) -> io::Result<()> {
+    short_texts(rt)?;
+    long_texts(rt)
 }

@@ -5,6 +5,7 @@ ghost use Rattle.nodes.specs.internal.Work.{Ready};
 
 use nodes::lookup::{Looked, look_up};
 use nodes::room::Room;
+use std::io;
 
 // The entries of the functions, and the room that they leave.
 #[derive(Clone, Copy)]
@@ -57,44 +58,52 @@ fn wide(x: u32) -> u64 {
     x as u64
 }
 
-fn digit(answer: Looked) {
+fn digit(rt: &impl Print, answer: Looked) -> io::Result<()> {
     match answer {
         Looked::Value(v) => {
             if v == 1 {
-                io::write_all(1, b"1");
+                rt.write_all(b"1")
             } else {
-                io::write_all(1, b"0");
+                rt.write_all(b"0")
             }
         }
-        Looked::Turned(_number) => {
-            io::write_all(1, b"-");
-        }
+        Looked::Turned(_number) => rt.write_all(b"-"),
     }
 }
 
 // The values from a root at the actions 0 to 15.
-fn show(name: &[u8], root: u32, level: &[u8], low: &[u32], high: &[u32]) {
-    io::write_all(1, name);
-    io::write_all(1, b": ");
+fn show(
+    rt: &impl Print,
+    name: &[u8],
+    root: u32,
+    level: &[u8],
+    low: &[u32],
+    high: &[u32],
+) -> io::Result<()> {
+    rt.write_all(name)?;
+    rt.write_all(b": ")?;
     let mut action: u64 = 0;
     while action < 16 {
-        digit(look_up(level, low, high, wide(root), action, 0, 0, 0, 0));
+        digit(
+            rt,
+            look_up(level, low, high, wide(root), action, 0, 0, 0, 0),
+        )?;
         action += 1;
     }
-    io::write_all(1, b"\n");
+    rt.write_all(b"\n")
 }
 
-fn show_all(r: Roots, level: &[u8], low: &[u32], high: &[u32]) {
-    show(b"number is 5", r.five, level, low, high);
-    show(b"number is 6", r.six, level, low, high);
-    show(b"or", r.either, level, low, high);
-    show(b"not", r.other, level, low, high);
-    show(b"and", r.both, level, low, high);
-    show(b"exists", r.some, level, low, high);
-    show(b"rename", r.renamed, level, low, high);
+fn show_all(rt: &impl Print, r: Roots, level: &[u8], low: &[u32], high: &[u32]) -> io::Result<()> {
+    show(rt, b"number is 5", r.five, level, low, high)?;
+    show(rt, b"number is 6", r.six, level, low, high)?;
+    show(rt, b"or", r.either, level, low, high)?;
+    show(rt, b"not", r.other, level, low, high)?;
+    show(rt, b"and", r.both, level, low, high)?;
+    show(rt, b"exists", r.some, level, low, high)?;
+    show(rt, b"rename", r.renamed, level, low, high)
 }
 
-pub fn built() {
+pub fn built(rt: &impl Print) -> io::Result<()> {
     let mut level = [0u8; 64];
     let mut low = [0u32; 64];
     let mut high = [0u32; 64];
@@ -102,8 +111,8 @@ pub fn built() {
     let r = begin(&mut low, &mut high, &mut work);
     let room = r.room;
     if room.full {
-        return;
+        return Ok(());
     }
     nodes::start::unpack(&mut level, &mut low, &high, room);
-    show_all(r, &level, &low, &high);
+    show_all(rt, r, &level, &low, &high)
 }

@@ -1,77 +1,125 @@
 // Look-ups over tables made by hand, in order and not, and over one that the operations built: a line a case, its name and the answer.
 #![tactic(auto)]
+
 mod built;
 
 use nodes::lookup::{Looked, look_up};
+use std::io;
 
 fn wide(x: u8) -> u64 {
     x as u64
 }
 
 // The line of a case.
-fn tell(name: &[u8], answer: Looked) {
-    io::write_all(1, name);
+fn tell(rt: &impl Print, name: &[u8], answer: Looked) -> io::Result<()> {
+    rt.write_all(name)?;
     match answer {
         Looked::Value(v) => {
-            io::write_all(1, b": value ");
-            io::print_decimal(1, wide(v));
+            let n = wide(v);
+            print!(rt; ": value {n}")?;
         }
         Looked::Turned(number) => {
-            io::write_all(1, b": refusal ");
-            io::print_decimal(1, wide(number));
+            let n = wide(number);
+            print!(rt; ": refusal {n}")?;
         }
     }
-    io::write_all(1, b"\n");
+    rt.write_all(b"\n")
 }
 
 // A look-up in a table in order: entry 2 is bit 0 of left now, entry 3 that and bit 0 of the action.
-fn good(name: &[u8], root: u64, action: u64, x: u64, x1: u64, y: u64, y1: u64) {
+fn good(
+    rt: &impl Print,
+    name: &[u8],
+    root: u64,
+    action: u64,
+    x: u64,
+    x1: u64,
+    y: u64,
+    y1: u64,
+) -> io::Result<()> {
     let level = [255u8, 255, 6, 0];
     let low = [0u32, 1, 0, 0];
     let high = [0u32, 1, 1, 2];
     tell(
+        rt,
         name,
         look_up(&level, &low, &high, root, action, x, x1, y, y1),
-    );
+    )
 }
 
 // A look-up in a table of one node, which is the bit at a level; only one number is not 0.
-fn at_level(name: &[u8], v: u8, action: u64, x: u64, x1: u64, y: u64, y1: u64) {
+fn at_level(
+    rt: &impl Print,
+    name: &[u8],
+    v: u8,
+    action: u64,
+    x: u64,
+    x1: u64,
+    y: u64,
+    y1: u64,
+) -> io::Result<()> {
     let level = [255u8, 255, v];
     let low = [0u32, 1, 0];
     let high = [0u32, 1, 1];
-    tell(name, look_up(&level, &low, &high, 2, action, x, x1, y, y1));
+    tell(
+        rt,
+        name,
+        look_up(&level, &low, &high, 2, action, x, x1, y, y1),
+    )
 }
 
 // A look-up from entry 3 of a table of two nodes: entry 3 of level v has the children lo and hi, entry 2 of level w has child 1.
-fn two(name: &[u8], v: u8, lo: u32, hi: u32, w: u8, down: u32, action: u64) {
+fn two(
+    rt: &impl Print,
+    name: &[u8],
+    v: u8,
+    lo: u32,
+    hi: u32,
+    w: u8,
+    down: u32,
+    action: u64,
+) -> io::Result<()> {
     let level = [255u8, 255, w, v];
     let low = [0u32, 1, down, lo];
     let high = [0u32, 1, 1, hi];
-    tell(name, look_up(&level, &low, &high, 3, action, 0, 0, 0, 0));
+    tell(
+        rt,
+        name,
+        look_up(&level, &low, &high, 3, action, 0, 0, 0, 0),
+    )
 }
 
 // A look-up from entry 1 in slices of some lengths.
-fn sized(name: &[u8], level: &[u8], low: &[u32], high: &[u32]) {
-    tell(name, look_up(level, low, high, 1, 0, 0, 0, 0, 0));
+fn sized(rt: &impl Print, name: &[u8], level: &[u8], low: &[u32], high: &[u32]) -> io::Result<()> {
+    tell(rt, name, look_up(level, low, high, 1, 0, 0, 0, 0, 0))
 }
 
-fn roots() {
-    good(b"entry 0", 0, 0, 0, 0, 0, 0);
-    good(b"entry 1", 1, 0, 0, 0, 0, 0);
-    good(b"entry 2, left now even", 2, 0, 2, 0, 0, 0);
-    good(b"entry 2, left now odd", 2, 0, 3, 0, 0, 0);
-    good(b"entry 3, action even", 3, 62, 1, 0, 0, 0);
-    good(b"entry 3, action odd", 3, 63, 1, 0, 0, 0);
-    good(b"entry 4, beyond the slices", 4, 0, 0, 0, 0, 0);
-    good(b"entry 2^64 - 1", 18446744073709551615, 0, 0, 0, 0, 0);
+fn roots(rt: &impl Print) -> io::Result<()> {
+    good(rt, b"entry 0", 0, 0, 0, 0, 0, 0)?;
+    good(rt, b"entry 1", 1, 0, 0, 0, 0, 0)?;
+    good(rt, b"entry 2, left now even", 2, 0, 2, 0, 0, 0)?;
+    good(rt, b"entry 2, left now odd", 2, 0, 3, 0, 0, 0)?;
+    good(rt, b"entry 3, action even", 3, 62, 1, 0, 0, 0)?;
+    good(rt, b"entry 3, action odd", 3, 63, 1, 0, 0, 0)?;
+    good(rt, b"entry 4, beyond the slices", 4, 0, 0, 0, 0, 0)?;
+    good(rt, b"entry 2^64 - 1", 18446744073709551615, 0, 0, 0, 0, 0)
 }
 
-fn numbers() {
-    good(b"action 64", 1, 64, 0, 0, 0, 0);
-    good(b"action 2^64 - 1", 1, 18446744073709551615, 0, 0, 0, 0);
-    good(b"codes 2^20 - 1", 3, 63, 1048575, 1048575, 1048575, 1048575);
+fn numbers(rt: &impl Print) -> io::Result<()> {
+    good(rt, b"action 64", 1, 64, 0, 0, 0, 0)?;
+    good(rt, b"action 2^64 - 1", 1, 18446744073709551615, 0, 0, 0, 0)?;
     good(
+        rt,
+        b"codes 2^20 - 1",
+        3,
+        63,
+        1048575,
+        1048575,
+        1048575,
+        1048575,
+    )?;
+    good(
+        rt,
         b"codes 2^24 - 1",
         3,
         63,
@@ -79,39 +127,49 @@ fn numbers() {
         16777215,
         16777215,
         16777215,
-    );
-    good(b"right next 2^64 - 1", 1, 0, 0, 0, 0, 18446744073709551615);
+    )?;
+    good(
+        rt,
+        b"right next 2^64 - 1",
+        1,
+        0,
+        0,
+        0,
+        0,
+        18446744073709551615,
+    )
 }
 
 // A code in each of the four places, from a root.
-fn each_place(name: &[u8], root: u64, code: u64) {
-    io::write_all(1, b"left now ");
-    good(name, root, 0, code, 0, 0, 0);
-    io::write_all(1, b"left next ");
-    good(name, root, 0, 0, code, 0, 0);
-    io::write_all(1, b"right now ");
-    good(name, root, 0, 0, 0, code, 0);
-    io::write_all(1, b"right next ");
-    good(name, root, 0, 0, 0, 0, code);
+fn each_place(rt: &impl Print, name: &[u8], root: u64, code: u64) -> io::Result<()> {
+    rt.write_all(b"left now ")?;
+    good(rt, name, root, 0, code, 0, 0, 0)?;
+    rt.write_all(b"left next ")?;
+    good(rt, name, root, 0, 0, code, 0, 0)?;
+    rt.write_all(b"right now ")?;
+    good(rt, name, root, 0, 0, 0, code, 0)?;
+    rt.write_all(b"right next ")?;
+    good(rt, name, root, 0, 0, 0, 0, code)
 }
 
-fn codes() {
-    each_place(b"2^20, entry 0", 0, 1048576);
-    each_place(b"2^20, entry 1", 1, 1048576);
-    each_place(b"2^20, entry 2", 2, 1048576);
-    each_place(b"2^24 - 1, entry 0", 0, 16777215);
-    each_place(b"2^24 - 1, entry 1", 1, 16777215);
-    each_place(b"2^24 - 1, entry 2", 2, 16777215);
-    each_place(b"2^24, entry 0", 0, 16777216);
-    each_place(b"2^24, entry 1", 1, 16777216);
-    each_place(b"2^24, entry 2", 2, 16777216);
+fn codes(rt: &impl Print) -> io::Result<()> {
+    each_place(rt, b"2^20, entry 0", 0, 1048576)?;
+    each_place(rt, b"2^20, entry 1", 1, 1048576)?;
+    each_place(rt, b"2^20, entry 2", 2, 1048576)?;
+    each_place(rt, b"2^24 - 1, entry 0", 0, 16777215)?;
+    each_place(rt, b"2^24 - 1, entry 1", 1, 16777215)?;
+    each_place(rt, b"2^24 - 1, entry 2", 2, 16777215)?;
+    each_place(rt, b"2^24, entry 0", 0, 16777216)?;
+    each_place(rt, b"2^24, entry 1", 1, 16777216)?;
+    each_place(rt, b"2^24, entry 2", 2, 16777216)
 }
 
-fn levels() {
-    at_level(b"level 5, action 32", 5, 32, 0, 0, 0, 0);
-    at_level(b"level 6, left now 1", 6, 0, 1, 0, 0, 0);
-    at_level(b"level 7, left next 1", 7, 0, 0, 1, 0, 0);
+fn levels(rt: &impl Print) -> io::Result<()> {
+    at_level(rt, b"level 5, action 32", 5, 32, 0, 0, 0, 0)?;
+    at_level(rt, b"level 6, left now 1", 6, 0, 1, 0, 0, 0)?;
+    at_level(rt, b"level 7, left next 1", 7, 0, 0, 1, 0, 0)?;
     at_level(
+        rt,
         b"level 8, a middle bit",
         8,
         63,
@@ -119,11 +177,12 @@ fn levels() {
         16777215,
         16777215,
         16777215,
-    );
-    at_level(b"level 9, right now 1", 9, 0, 0, 0, 1, 0);
-    at_level(b"level 10, right next 1", 10, 0, 0, 0, 0, 1);
-    at_level(b"level 10, right next 2", 10, 0, 0, 0, 0, 2);
+    )?;
+    at_level(rt, b"level 9, right now 1", 9, 0, 0, 0, 1, 0)?;
+    at_level(rt, b"level 10, right next 1", 10, 0, 0, 0, 0, 1)?;
+    at_level(rt, b"level 10, right next 2", 10, 0, 0, 0, 0, 2)?;
     at_level(
+        rt,
         b"level 11, a middle bit",
         11,
         63,
@@ -131,13 +190,14 @@ fn levels() {
         16777215,
         16777215,
         16777215,
-    );
+    )
 }
 
-fn last_levels() {
-    at_level(b"level 120, left now 2^19", 120, 0, 524288, 0, 0, 0);
-    at_level(b"level 124, right next 2^19", 124, 0, 0, 0, 0, 524288);
+fn last_levels(rt: &impl Print) -> io::Result<()> {
+    at_level(rt, b"level 120, left now 2^19", 120, 0, 524288, 0, 0, 0)?;
+    at_level(rt, b"level 124, right next 2^19", 124, 0, 0, 0, 0, 524288)?;
     at_level(
+        rt,
         b"level 125, a middle bit",
         125,
         63,
@@ -145,14 +205,24 @@ fn last_levels() {
         16777215,
         16777215,
         16777215,
-    );
-    at_level(b"level 126, left now 2^20", 126, 0, 1048576, 0, 0, 0);
-    at_level(b"level 126, left now 2^20 - 1", 126, 0, 1048575, 0, 0, 0);
-    at_level(b"level 144, left now 2^23", 144, 0, 8388608, 0, 0, 0);
-    at_level(b"level 145, left next 2^23", 145, 0, 0, 8388608, 0, 0);
-    at_level(b"level 147, right now 2^23", 147, 0, 0, 0, 8388608, 0);
-    at_level(b"level 148, right next 2^23", 148, 0, 0, 0, 0, 8388608);
+    )?;
+    at_level(rt, b"level 126, left now 2^20", 126, 0, 1048576, 0, 0, 0)?;
     at_level(
+        rt,
+        b"level 126, left now 2^20 - 1",
+        126,
+        0,
+        1048575,
+        0,
+        0,
+        0,
+    )?;
+    at_level(rt, b"level 144, left now 2^23", 144, 0, 8388608, 0, 0, 0)?;
+    at_level(rt, b"level 145, left next 2^23", 145, 0, 0, 8388608, 0, 0)?;
+    at_level(rt, b"level 147, right now 2^23", 147, 0, 0, 0, 8388608, 0)?;
+    at_level(rt, b"level 148, right next 2^23", 148, 0, 0, 0, 0, 8388608)?;
+    at_level(
+        rt,
         b"level 149, a middle bit",
         149,
         63,
@@ -160,58 +230,58 @@ fn last_levels() {
         16777215,
         16777215,
         16777215,
-    );
-    at_level(b"level 150", 150, 0, 0, 0, 0, 0);
-    at_level(b"level 254", 254, 0, 0, 0, 0, 0);
-    at_level(b"level 255", 255, 0, 0, 0, 0, 0);
+    )?;
+    at_level(rt, b"level 150", 150, 0, 0, 0, 0, 0)?;
+    at_level(rt, b"level 254", 254, 0, 0, 0, 0, 0)?;
+    at_level(rt, b"level 255", 255, 0, 0, 0, 0, 0)
 }
 
-fn disorder() {
-    two(b"child deeper", 0, 0, 2, 1, 0, 3);
-    two(b"child of the same level", 1, 0, 2, 1, 0, 3);
-    two(b"child of a smaller level", 2, 0, 2, 1, 0, 7);
-    two(b"child out of order, not met", 2, 0, 2, 1, 0, 0);
-    two(b"child out of the slices", 0, 0, 4, 1, 0, 1);
-    two(b"child 2^32 - 1", 0, 0, 4294967295, 1, 0, 1);
-    two(b"its own child", 0, 3, 0, 1, 0, 0);
-    two(b"a cycle of two", 0, 2, 0, 1, 3, 0);
+fn disorder(rt: &impl Print) -> io::Result<()> {
+    two(rt, b"child deeper", 0, 0, 2, 1, 0, 3)?;
+    two(rt, b"child of the same level", 1, 0, 2, 1, 0, 3)?;
+    two(rt, b"child of a smaller level", 2, 0, 2, 1, 0, 7)?;
+    two(rt, b"child out of order, not met", 2, 0, 2, 1, 0, 0)?;
+    two(rt, b"child out of the slices", 0, 0, 4, 1, 0, 1)?;
+    two(rt, b"child 2^32 - 1", 0, 0, 4294967295, 1, 0, 1)?;
+    two(rt, b"its own child", 0, 3, 0, 1, 0, 0)?;
+    two(rt, b"a cycle of two", 0, 2, 0, 1, 3, 0)
 }
 
-fn equal_sizes() {
+fn equal_sizes(rt: &impl Print) -> io::Result<()> {
     let level = [255u8, 255];
     let low = [0u32, 1];
     let high = [0u32, 1];
-    sized(b"lengths 2, 2, 2", &level, &low, &high);
+    sized(rt, b"lengths 2, 2, 2", &level, &low, &high)?;
     let level1 = [255u8];
     let low1 = [0u32];
     let high1 = [0u32];
-    sized(b"lengths 1, 1, 1", &level1, &low1, &high1);
+    sized(rt, b"lengths 1, 1, 1", &level1, &low1, &high1)?;
     let level0 = [0u8; 0];
     let low0 = [0u32; 0];
     let high0 = [0u32; 0];
-    sized(b"lengths 0, 0, 0", &level0, &low0, &high0);
+    sized(rt, b"lengths 0, 0, 0", &level0, &low0, &high0)
 }
 
-fn unequal_sizes() {
+fn unequal_sizes(rt: &impl Print) -> io::Result<()> {
     let two = [255u8, 255];
     let three = [255u8, 255, 255];
     let low2 = [0u32, 1];
     let low3 = [0u32, 1, 0];
     let high3 = [0u32, 1, 0];
     let high4 = [0u32, 1, 0, 0];
-    sized(b"lengths 3, 2, 3", &three, &low2, &high3);
-    sized(b"lengths 3, 3, 4", &three, &low3, &high4);
-    sized(b"lengths 2, 3, 3", &two, &low3, &high3);
+    sized(rt, b"lengths 3, 2, 3", &three, &low2, &high3)?;
+    sized(rt, b"lengths 3, 3, 4", &three, &low3, &high4)?;
+    sized(rt, b"lengths 2, 3, 3", &two, &low3, &high3)
 }
 
-fn main() {
-    roots();
-    numbers();
-    codes();
-    levels();
-    last_levels();
-    disorder();
-    equal_sizes();
-    unequal_sizes();
-    built::built();
+fn main(rt: HostRuntime) -> io::Result<()> {
+    roots(&rt)?;
+    numbers(&rt)?;
+    codes(&rt)?;
+    levels(&rt)?;
+    last_levels(&rt)?;
+    disorder(&rt)?;
+    equal_sizes(&rt)?;
+    unequal_sizes(&rt)?;
+    built::built(&rt)
 }

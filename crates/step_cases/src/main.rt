@@ -2,17 +2,18 @@
 // there is a look-up from the relation's root. A code is a state's where the last strong iterate relates it to itself. The stored output was made by
 // the independent program.
 #![tactic(auto)]
-use libc::STDOUT_FILENO;
+
 use nodes::lookup::{Looked, look_up};
+use std::io;
 use verdicts::compare::compare;
 use verdicts::{Answer, Verdict};
 
-fn say(text: &[u8]) {
-    io::write_all(STDOUT_FILENO, text);
+fn say(rt: &impl Print, text: &[u8]) -> io::Result<()> {
+    rt.write_all(text)
 }
 
-fn number(n: u64) {
-    io::print_decimal(STDOUT_FILENO, n);
+fn number(rt: &impl Print, n: u64) -> io::Result<()> {
+    print!(rt; "{n}")
 }
 
 // Whether a look-up gives 1.
@@ -32,17 +33,18 @@ fn holds(
     }
 }
 
-fn print_step(x: u64, action: u64, y: u64) {
-    number(x);
-    say(b" ");
-    number(action);
-    say(b" ");
-    number(y);
-    say(b"\n");
+fn print_step(rt: &impl Print, x: u64, action: u64, y: u64) -> io::Result<()> {
+    number(rt, x)?;
+    say(rt, b" ")?;
+    number(rt, action)?;
+    say(rt, b" ")?;
+    number(rt, y)?;
+    say(rt, b"\n")
 }
 
 // The steps by an action from x to the codes below n.
 fn steps_by(
+    rt: &impl Print,
     level: &[u8],
     low: &[u32],
     high: &[u32],
@@ -51,18 +53,20 @@ fn steps_by(
     x: u64,
     action: u64,
     n: u64,
-) {
+) -> io::Result<()> {
     for y in 0..n {
         if holds(level, low, high, iterate, 0, y, 0, y) {
             if holds(level, low, high, relation, action, x, y, 0) {
-                print_step(x, action, y);
+                print_step(rt, x, action, y)?;
             }
         }
     }
+    Ok(())
 }
 
 // The steps from x.
 fn steps_from(
+    rt: &impl Print,
     level: &[u8],
     low: &[u32],
     high: &[u32],
@@ -70,25 +74,35 @@ fn steps_from(
     iterate: u64,
     x: u64,
     n: u64,
-) {
+) -> io::Result<()> {
     for action in 0..64 {
-        steps_by(level, low, high, relation, iterate, x, action, n);
+        steps_by(rt, level, low, high, relation, iterate, x, action, n)?;
     }
+    Ok(())
 }
 
 // The steps from the codes below n that are states.
-fn print_steps(level: &[u8], low: &[u32], high: &[u32], relation: u64, iterate: u64, n: u64) {
+fn print_steps(
+    rt: &impl Print,
+    level: &[u8],
+    low: &[u32],
+    high: &[u32],
+    relation: u64,
+    iterate: u64,
+    n: u64,
+) -> io::Result<()> {
     for x in 0..n {
         if holds(level, low, high, iterate, 0, x, 0, x) {
-            steps_from(level, low, high, relation, iterate, x, n);
+            steps_from(rt, level, low, high, relation, iterate, x, n)?;
         }
     }
+    Ok(())
 }
 
 // A model of so many codes.
-fn show(name: &[u8], text: &[u8], n: u64) {
-    say(name);
-    say(b"\n");
+fn show(rt: &impl Print, name: &[u8], text: &[u8], n: u64) -> io::Result<()> {
+    say(rt, name)?;
+    say(rt, b"\n")?;
     let mut level = [0u8; 16384];
     let mut low = [0u32; 16384];
     let mut high = [0u32; 16384];
@@ -103,227 +117,280 @@ fn show(name: &[u8], text: &[u8], n: u64) {
     } = answer
     {
         if let Verdict::Equal { iterate, rounds: _ } = strong {
-            print_steps(&level, &low, &high, left as u64, iterate as u64, n);
+            print_steps(rt, &level, &low, &high, left as u64, iterate as u64, n)?;
         }
     }
+    Ok(())
 }
 
-fn leaves() {
+fn leaves(rt: &impl Print) -> io::Result<()> {
     show(
+        rt,
         b"leaf of three states",
         b"000103000201010002020300000201000000\n",
         4,
-    );
-    show(b"leaf of one state", b"000101000000000400\n", 1);
+    )?;
+    show(rt, b"leaf of one state", b"000101000000000400\n", 1)
 }
 
-fn composed() {
+fn composed(rt: &impl Print) -> io::Result<()> {
     show(
+        rt,
         b"compose, one line twice",
         b"000102000201010300000001\n01020000\n",
         4,
-    );
+    )?;
     show(
+        rt,
         b"compose of three states",
         b"000103000201010002\n010102000301010000\n02020001\n",
         8,
-    );
+    )
 }
 
-fn restricted() {
+fn restricted(rt: &impl Print) -> io::Result<()> {
     show(
+        rt,
         b"restrict",
         b"000102000201010300000400010001\n01030001\n",
         2,
-    );
-    show(b"restrict nothing", b"000102000201\n010300\n", 2);
+    )?;
+    show(rt, b"restrict nothing", b"000102000201\n010300\n", 2)
 }
 
-fn relabelled() {
+fn relabelled(rt: &impl Print) -> io::Result<()> {
     show(
+        rt,
         b"relabel",
         b"000102000201010300000400010001\n0104000102\n",
         2,
-    );
-    show(b"relabel to itself", b"000102000201010500\n0104000101\n", 2);
+    )?;
+    show(
+        rt,
+        b"relabel to itself",
+        b"000102000201010500\n0104000101\n",
+        2,
+    )
 }
 
-fn hidden_and_joint() {
-    show(b"hide", b"000102000201010300000400010001\n010500011E\n", 2);
+fn hidden_and_joint(rt: &impl Print) -> io::Result<()> {
     show(
+        rt,
+        b"hide",
+        b"000102000201010300000400010001\n010500011E\n",
+        2,
+    )?;
+    show(
+        rt,
         b"joint",
         b"000102000201010400000300\n010103000201010202000500020000\n0206000101\n",
         8,
-    );
-    show(b"joint on nothing", b"000102000201\n01060000\n", 4);
+    )?;
+    show(rt, b"joint on nothing", b"000102000201\n01060000\n", 4)
 }
 
-fn terminated() {
-    show(b"exit", b"000102003E01\n", 2);
+fn terminated(rt: &impl Print) -> io::Result<()> {
+    show(rt, b"exit", b"000102003E01\n", 2)?;
     show(
+        rt,
         b"joint: both exit",
         b"000102003E01\n010102003E01\n02060001\n",
         4,
-    );
+    )?;
     show(
+        rt,
         b"joint: one side can't exit",
         b"000102003E01\n010102000201\n02060001\n",
         4,
-    );
+    )?;
     show(
+        rt,
         b"joint: listed, then exit",
         b"000103000201013E02\n0106000001\n",
         16,
-    );
-    show(b"compose: exits pass", b"000102003E01\n01020000\n", 4);
+    )?;
+    show(rt, b"compose: exits pass", b"000102003E01\n01020000\n", 4)
 }
 
-fn terminated_beside() {
+fn terminated_beside(rt: &impl Print) -> io::Result<()> {
     show(
+        rt,
         b"joint: exit together, channel 30 alone",
         b"000102003C01003D01003E01\n01060000\n",
         4,
-    );
+    )?;
     show(
+        rt,
         b"compose: channel 30 meets, exit does not",
         b"000102003C01003E01\n010102003D01003E01\n02020001\n",
         4,
-    );
-    show(b"steps after exit", b"000103003E01010202\n01060000\n", 16);
+    )?;
     show(
+        rt,
+        b"steps after exit",
+        b"000103003E01010202\n01060000\n",
+        16,
+    )?;
+    show(
+        rt,
         b"joint of three that exit",
         b"000102003E01\n01060000\n02060100\n",
         8,
-    );
+    )
 }
 
-fn terminated_under() {
+fn terminated_under(rt: &impl Print) -> io::Result<()> {
     show(
+        rt,
         b"hide channel 30, not exit",
         b"000102003C01003D01003E01\n0105001E\n",
         2,
-    );
+    )?;
     show(
+        rt,
         b"restrict channel 30, not exit",
         b"000102003C01003D01003E01\n0103001E\n",
         2,
-    );
+    )?;
     show(
+        rt,
         b"relabel channel 30, not exit",
         b"000102003C01003D01003E01\n0104001E01\n",
         2,
-    );
+    )?;
     show(
+        rt,
         b"restrict, relabel and hide of exit",
         b"000104000201013E02020403\n01030002\n0204010103\n03050203\n",
         4,
-    );
+    )?;
     show(
+        rt,
         b"joint of a composition that exits twice",
         b"000102003E01\n01020000\n02060100\n",
         8,
-    );
+    )?;
     show(
+        rt,
         b"compose of joints that exit",
         b"000102003E01\n01060000\n02020100\n",
         8,
-    );
+    )
 }
 
-fn enabled() {
+fn enabled(rt: &impl Print) -> io::Result<()> {
     show(
+        rt,
         b"enabling",
         b"000103000201013E02\n010102000401\n02070001\n",
         16,
-    );
+    )?;
     show(
+        rt,
         b"enabling: two exits of the first",
         b"000103003E01003E02\n010102000401\n02070001\n",
         16,
-    );
+    )?;
     show(
+        rt,
         b"enabling: the second exits",
         b"000102003E01\n010102003E01\n02070001\n",
         8,
-    );
+    )?;
     show(
+        rt,
         b"enabling: the first never exits",
         b"000102000201\n010102000401\n02070001\n",
         8,
-    );
+    )
 }
 
-fn disabled() {
-    show(b"disabling", b"000102000201\n010102000401\n02080001\n", 16);
+fn disabled(rt: &impl Print) -> io::Result<()> {
     show(
+        rt,
+        b"disabling",
+        b"000102000201\n010102000401\n02080001\n",
+        16,
+    )?;
+    show(
+        rt,
         b"disabling: the first exits, and steps on",
         b"000103003E01010202\n010102000401\n02080001\n",
         32,
-    );
+    )?;
     show(
+        rt,
         b"disabling: the second exits",
         b"000102000201\n010102003E01\n02080001\n",
         16,
-    );
+    )?;
     show(
+        rt,
         b"disabling: the second's first step is internal",
         b"000102000201\n010103000001010402\n02080001\n",
         32,
-    );
+    )
 }
 
-fn sequenced() {
+fn sequenced(rt: &impl Print) -> io::Result<()> {
     show(
+        rt,
         b"disabling, then a line again",
         b"000102003E01\n01080000\n02070100\n",
         64,
-    );
+    )?;
     show(
+        rt,
         b"enabling, disabled",
         b"000102003E01\n01070000\n020101000400\n03080102\n",
         32,
-    );
+    )?;
     show(
+        rt,
         b"joint of an enabling and a line that exits",
         b"000102003E01\n01070000\n02060100\n",
         16,
-    );
+    )?;
     show(
+        rt,
         b"enabling of compositions, hidden",
         b"000102000201013E00\n010102000301\n02020001\n03070201\n04050301\n",
         16,
-    );
+    )
 }
 
-fn nested() {
+fn nested(rt: &impl Print) -> io::Result<()> {
     show(
+        rt,
         b"all operators nested",
         b"000102000201010300010001\n010103000301010402020200\n02020001\n0304020203\n0406030003\n05050401\n06030502\n",
         16,
-    );
+    )?;
     show(
+        rt,
         b"restrict of compose of relabels",
         b"000102000301010400\n0104000203\n0204000103\n03020102\n04030303\n",
         4,
-    );
+    )?;
     show(
+        rt,
         b"unused lines",
         b"000102000201\n01014000023F\n02020101\n03050002\n",
         2,
-    );
+    )
 }
 
-fn main() {
-    leaves();
-    composed();
-    restricted();
-    relabelled();
-    hidden_and_joint();
-    terminated();
-    terminated_beside();
-    terminated_under();
-    enabled();
-    disabled();
-    sequenced();
-    nested();
+fn main(rt: HostRuntime) -> io::Result<()> {
+    leaves(&rt)?;
+    composed(&rt)?;
+    restricted(&rt)?;
+    relabelled(&rt)?;
+    hidden_and_joint(&rt)?;
+    terminated(&rt)?;
+    terminated_beside(&rt)?;
+    terminated_under(&rt)?;
+    enabled(&rt)?;
+    disabled(&rt)?;
+    sequenced(&rt)?;
+    nested(&rt)
 }
