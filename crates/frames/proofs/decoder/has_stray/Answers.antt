@@ -1,6 +1,6 @@
 -- `frames::decoder::has_stray` meets its contract: the loop keeps what the bytes passed and those that are left say together.
 -- Assumes nothing.
-use Rattle.std.proofs.Common.{◌-◌, sym, refl, ◌∙◌}
+use Rattle.std.proofs.Common.{sym, refl, ◌∙◌}
 use Rattle.frames.proofs.DecoderLaws.{test_on, test_past}
 use Rattle.frames.proofs.decoder.has_stray.Goals as goal
 

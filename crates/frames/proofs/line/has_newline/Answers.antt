@@ -1,6 +1,6 @@
 -- `frames::line::has_newline` meets its contract: the loop keeps what the bytes passed and those that are left say together.
 -- Assumes nothing.
-use Rattle.std.proofs.Common.{◌-◌, sym, refl, ◌∙◌}
+use Rattle.std.proofs.Common.{sym, refl, ◌∙◌}
 use Rattle.frames.proofs.LineLaws.{newline_on, newline_past}
 use Rattle.frames.proofs.line.has_newline.Goals as goal
 

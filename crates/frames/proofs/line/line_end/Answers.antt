@@ -1,6 +1,6 @@
 -- `frames::line::line_end` meets its contract: the loop keeps that the line ends where the rest of it does.
 -- Assumes nothing.
-use Rattle.std.proofs.Common.{◌-◌, add-one, arith}
+use Rattle.std.proofs.Common.{add-one, arith}
 use Rattle.frames.proofs.LineLaws.{length_here, length_on, length_past, blocks_passed}
 use Rattle.frames.proofs.line.line_end.Goals as goal
 

@@ -1,6 +1,6 @@
 -- `frames::line::line_place` meets its contract: the loop keeps that `at` is the place of line i.
 -- Assumes nothing.
-use Rattle.std.proofs.Common.{◌≡◌, ◌-◌, refl, ap, ◌∙◌, add-one, arith, rules}
+use Rattle.std.proofs.Common.{◌≡◌, refl, ap, ◌∙◌, add-one, arith, rules}
 use Rattle.frames.specs.Line.{place_after}
 use Rattle.frames.specs.internal.Lines.{place_of}
 use Rattle.frames.proofs.line.line_place.Goals as goal

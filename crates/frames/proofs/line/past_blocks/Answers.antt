@@ -1,6 +1,6 @@
 -- `frames::line::past_blocks` meets its contract: the loop keeps that the line ends where the rest of it does.
 -- Assumes nothing.
-use Rattle.std.proofs.Common.{◌≡◌, ◌+◌, ◌-◌, ◌≤◌, length, drop, sym, refl, ◌∙◌, arith, rules}
+use Rattle.std.proofs.Common.{◌≡◌, ◌+◌, ◌≤◌, length, drop, sym, refl, ◌∙◌, arith, rules}
 use Rattle.frames.specs.Line.{line_length}
 use Rattle.frames.specs.internal.Cut.{block}
 use Rattle.frames.proofs.LineLaws.{block_passed, blocks_end}

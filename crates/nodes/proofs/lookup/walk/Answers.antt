@@ -35,10 +35,10 @@ loop-n-preserved c =
     let a = c.args in
     let l = c.loop-n in
     elim c.if-up.branch [
-      then-up w ↦ sym (walk_up (slices a.level.now a.low.now a.high.now) (looked_up a.action a.x a.x1 a.y a.y1) l.from l.n l.i c.if-up.child
-    (omega arith) (omega arith) (omega arith) (omega arith) (omega arith) c.bit_at-up.ensures w.if-up.true (omega arith)) ∙ l.invariant
-    | else-up w ↦ sym (walk_down (slices a.level.now a.low.now a.high.now) (looked_up a.action a.x a.x1 a.y a.y1) l.from l.n l.i c.if-up.child
-    (omega arith) (omega arith) (omega arith) (omega arith) (omega arith) c.bit_at-up.ensures w.if-up.false (omega arith)) ∙ l.invariant
+      | then-up w ↦ sym (walk_up (slices a.level.now a.low.now a.high.now) (looked_up a.action a.x a.x1 a.y a.y1) l.from l.n l.i c.if-up.child
+          (omega arith) (omega arith) (omega arith) (omega arith) (omega arith) c.bit_at-up.ensures w.if-up.true (omega arith)) ∙ l.invariant
+      | else-up w ↦ sym (walk_down (slices a.level.now a.low.now a.high.now) (looked_up a.action a.x a.x1 a.y a.y1) l.from l.n l.i c.if-up.child
+          (omega arith) (omega arith) (omega arith) (omega arith) (omega arith) c.bit_at-up.ensures w.if-up.false (omega arith)) ∙ l.invariant
     ]
 
 pub returns : goal.returns

@@ -70,8 +70,8 @@ pub loop-i-preserved : goal.loop-i-preserved
 loop-i-preserved c =
     work_next _ _ _ _ _ c.requires.indexing _ c.loop-i-test.true c.loop-i.invariant
     (λ n. elim c.if-packed-at.branch [
-      then-packed-at+else-high-at w ↦ w.if-high-at.false n.high
-    | else-packed-at w ↦ w.if-packed-at.false (node_word _ _ _ _ _ _ _ n)
+      | then-packed-at+else-high-at w ↦ w.if-high-at.false n.high
+      | else-packed-at w ↦ w.if-packed-at.false (node_word _ _ _ _ _ _ _ n)
     ])
 
 pub returns : goal.returns

@@ -1,6 +1,5 @@
 -- `nodes::find_from` meets its contract. The loop's invariant: no entry passed is the node. The measure is what is left of the entries in use.
 -- Assumes nothing.
-use Prim.Native.Nat.{◌-◌}
 use native.Mathlib.Omega.{arith}
 use borrow.Author.Count.{below_more}
 use Rattle.nodes.proofs.Parting.{levels_length}
@@ -20,8 +19,8 @@ overflow_add-word c = omega (arith, c.requires.lo_lt_max_length)
 pub loop-i-init : goal.loop-i-init
 loop-i-init c =
     elim c.if-from-gt2.branch [
-      then-from-gt2 w ↦ (omega arith, omega arith, λ k l h n. let m = n.node in omega arith)
-    | else-from-gt2 w ↦ (omega arith, omega arith, λ k l h n. let m = n.node in omega arith)
+      | then-from-gt2 w ↦ (omega arith, omega arith, λ k l h n. let m = n.node in omega arith)
+      | else-from-gt2 w ↦ (omega arith, omega arith, λ k l h n. let m = n.node in omega arith)
     ]
 
 pub bounds-packed-at : goal.bounds-packed-at
@@ -37,11 +36,14 @@ returns-then-high-at c =
     node_there _ _ _ _ _ _ _ c.requires.lo_lt_max_length c.loop-i.invariant.0 c.loop-i-test.true c.if-packed-at.true c.if-high-at.true
 
 pub loop-i-preserved : goal.loop-i-preserved
-loop-i-preserved c =
-    (omega arith, omega arith, below_more _ _ c.loop-i.invariant.2 (λ _ n. elim c.if-packed-at.branch [
-      then-packed-at+else-high-at w ↦ w.if-high-at.false n.high
+loop-i-preserved c = (
+  omega arith,
+  omega arith,
+  below_more _ _ c.loop-i.invariant.2 (λ _ n. elim c.if-packed-at.branch [
+    | then-packed-at+else-high-at w ↦ w.if-high-at.false n.high
     | else-packed-at w ↦ w.if-packed-at.false (node_word _ _ _ _ _ _ _ n)
-    ]))
+  ]),
+)
 
 pub returns : goal.returns
 returns c i h n = let u = n.used in c.loop-i.invariant.2 i (omega arith) h n

@@ -1,6 +1,6 @@
 -- `frames::decoder::Decoder::run_even` meets its contract: the loop keeps what the pairs so far leave, and the calls say what the rest leaves.
 -- Assumes nothing.
-use Rattle.std.proofs.Common.{◌-◌, refl, arith, rules}
+use Rattle.std.proofs.Common.{refl, arith, rules}
 use Rattle.frames.proofs.DecoderLaws.{pairs_none, pairs_on, even_is}
 use Rattle.frames.proofs.decoder.Decoder.run_even.Goals as goal
 
@@ -10,7 +10,7 @@ loop-i-init c = (search rules, pairs_none _ c.args.digits.now refl)
 pub loop-i-preserved : goal.loop-i-preserved
 loop-i-preserved c = (
   search rules,
-      pairs_on _ c.args.digits.now c.args.self.count c.loop-i.i (omega arith) (omega arith) c.loop-i.invariant.1 c.hex_value-high.ensures c.hex_value-low.ensures,
+  pairs_on _ c.args.digits.now c.args.self.count c.loop-i.i (omega arith) (omega arith) c.loop-i.invariant.1 c.hex_value-high.ensures c.hex_value-low.ensures,
 )
 
 pub returns : goal.returns
