@@ -23,8 +23,8 @@ pub struct Roots {
 // The number at levels 0 to 2 is 5; it is 6; one of both; not 5; one of both and not 5, which is 6; one of both, with level 0 anything; one of
 // both, with level 2 renamed to 3.
 fn build(room: Room, packed: &mut [u32], high: &mut [u32], work: &mut [u32]) -> Roots
-    requires { Ready (holding packed.old high.old work.old room) }
-    ensures { Ready (leaving packed.new high.new work.new result.room) }
+    requires { Ready (holding packed high work room) }
+    ensures { Ready (leaving packed high work result.room) }
 {
     let a = nodes::single::number_is(5, 0, 1, 3, room, packed, high, work);
     let b = nodes::single::number_is(6, 0, 1, 3, a, packed, high, work);
@@ -48,7 +48,7 @@ fn build(room: Room, packed: &mut [u32], high: &mut [u32], work: &mut [u32]) -> 
 // From a table of the constants alone.
 fn begin(packed: &mut [u32], high: &mut [u32], work: &mut [u32]) -> Roots
     requires { Fits packed.old high.old }
-    ensures { Ready (leaving packed.new high.new work.new result.room) }
+    ensures { Ready (leaving packed high work result.room) }
 {
     let room = nodes::start::start(packed, high, work);
     build(room, packed, high, work)
