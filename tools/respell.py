@@ -20,7 +20,7 @@ import sys
 W = r"[^\s(){}.;,@\"«»\[\]\\`λ]+"
 MARKS = r"(?:(?:pub|abbrev|unfoldable|private|opaque)\s+)*"
 KIND = re.compile(r"^(\s*)(?:" + MARKS + r")(record|data|ruleset)\s+(" + W + r")")
-DECL = re.compile(r"^(\s*)(" + MARKS + r")(" + W + r"(?:\s*,\s*" + W + r")*)\s+:\s+(.*)$")
+DECL = re.compile(r"^(\s*)(" + MARKS + r")(" + W + r"(?:\s*,\s*" + W + r")*)(?:\s+\{[^{}]*\})?\s+:\s+(.*)$")
 USE = re.compile(r"^\s*(?:pub\s+)?(?:ghost\s+)?use\s+([^\s;{]+?)\.?(?:\{(.*)\})?(?:\s+as\s+(\S+?))?;?\s*$")
 # own names that would fall together with another one when respelled by rule, or read badly
 BY_HAND = {
@@ -66,10 +66,10 @@ def declared(paths):
                 out[kind[3]] = out.get(kind[3], False) or kind[2] != "ruleset"
                 continue
             it = DECL.match(line)
-            if not it or re.match(r"\s*(use|let|in|ghost)\b", line):
+            if not it or re.match(r"\s*(use|let|in|ghost)(?![\w-])", line):
                 continue
             text = signature(lines, i, len(it[1]), it[4])
-            if text.startswith("tie."):
+            if text.startswith(("tie.", "goal.")):
                 continue
             for name in re.split(r"\s*,\s*", it[3]):
                 out[name] = out.get(name, False) or bool(re.search(r"Type(\s+\S+)?$", text.strip()))
