@@ -21,6 +21,10 @@ W = r"[^\s(){}.;,@\"«»\[\]\\`λ]+"
 MARKS = r"(?:(?:pub|abbrev|unfoldable|private|opaque)\s+)*"
 KIND = re.compile(r"^(\s*)(?:" + MARKS + r")(record|data|ruleset)\s+(" + W + r")")
 DECL = re.compile(r"^(\s*)(" + MARKS + r")(" + W + r"(?:\s*,\s*" + W + r")*)(?:\s+\{[^{}]*\})?\s+:\s+(.*)$")
+# several constructors in one line; the names that a use line gives; the parameters of a definition
+SEVERAL = re.compile(r"^\s+((?:" + W + r"\s+)+" + W + r")\s+:\s+(.*)$")
+ALIAS = re.compile(r"\sas\s+(" + W + r")")
+BINDERS = re.compile(r"\(([^():]*) : ")
 USE = re.compile(r"^\s*(?:pub\s+)?(?:ghost\s+)?use\s+([^\s;{]+?)\.?(?:\{(.*)\})?(?:\s+as\s+(\S+?))?;?\s*$")
 # own names that would fall together with another one when respelled by rule, or read badly
 BY_HAND = {
@@ -65,6 +69,15 @@ def declared(paths):
             if kind:
                 out[kind[3]] = out.get(kind[3], False) or kind[2] != "ruleset"
                 continue
+            more = ALIAS.findall(line) if re.match(r"\s*(pub\s+)?(ghost\s+)?use\s", line) else []
+            many = SEVERAL.match(line)
+            if many and not re.search(r"[=→λ]|\b(let|in|where|pub|abbrev|unfoldable|mutual)(?![\w-])", many[1]):
+                more += many[1].split()
+            if "/specs/" in path:
+                more += [name for group in BINDERS.findall(line) for name in group.split()]
+            for name in more:
+                if "-" in name:
+                    out.setdefault(name, name[0].isupper() and len(name.split("-")[0]) > 1)
             it = DECL.match(line)
             if not it or re.match(r"\s*(use|let|in|ghost)(?![\w-])", line):
                 continue

@@ -5,7 +5,7 @@ use Rattle.frames.specs.Text.{read_text}
 use Rattle.frames.specs.Process.{width, leaves, state_count, model_of}
 use Rattle.frames.specs.declared.text.Verdict.{Verdict}
 use Rattle.frames.specs.declared.text.Verdict.TheVariants as text
-use Rattle.nodes.specs.Lookup.{Slices, number_of as looked-number, values_of as looked-values}
+use Rattle.nodes.specs.Lookup.{Slices, number_of as looked_number, values_of as looked_values}
 use Rattle.nodes.specs.declared.lookup.Looked.{Looked}
 use Rattle.verdicts.specs.Bisimulation.{strong, weak}
 use Rattle.verdicts.specs.Contract.{Values, values_of, Compared}
@@ -59,7 +59,7 @@ first_of [] other = other
 first_of (v ∷ vs) other = v
 
 abbrev pub numbered : Looked → ℕ
-numbered l = first_of (looked-values l) (looked-number l)
+numbered l = first_of (looked_values l) (looked_number l)
 
 -- ---- what a text's model is
 

@@ -7,7 +7,7 @@ use Rattle.nodes.specs.internal.Parts.{links_in, heads_in, memo_in}
 use Rattle.nodes.specs.Table.{den}
 use Rattle.nodes.specs.internal.Operate.{operation, Settles, Recalled, Operating}
 use Rattle.nodes.proofs.Memory.{recalls}
-use Rattle.nodes.proofs.Recursion.{operate_at as at-hand, operate_recalled, turned, turned_as, falls_low, falls_high, operands_low, operands_high, operate_short_1, operate_short_2, operate_makeable, operate_answers}
+use Rattle.nodes.proofs.Recursion.{operate_at as at_hand, operate_recalled, turned, turned_as, falls_low, falls_high, operands_low, operands_high, operate_short_1, operate_short_2, operate_makeable, operate_answers}
 use Rattle.nodes.proofs.apply.+operate.Goals as goal
 
 pub returns-in-Is : goal.returns-in-Is
@@ -15,7 +15,7 @@ returns-in-Is u c =
     let a = c.args in
     let pre = c.requires in
     let t = packed_table a.packed.now a.high.now a.used in
-    (at-hand t a.op a.f a.g pre.operands _ (subst (Settles t a.op a.f a.g) c.in-Is.is c.settle.ensures), pre.helping)
+    (at_hand t a.op a.f a.g pre.operands _ (subst (Settles t a.op a.f a.g) c.in-Is.is c.settle.ensures), pre.helping)
 
 pub returns-in-At : goal.returns-in-At
 returns-in-At u c =
