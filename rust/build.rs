@@ -1,4 +1,4 @@
-//! Links the static library that `rt staticlib seipolku` writes; SEIPOLKU_LIB names another folder.
+//! Links the static library that `./build program` writes; SEIPOLKU_LIB names another folder.
 
 use std::env;
 use std::path::PathBuf;
