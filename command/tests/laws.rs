@@ -185,7 +185,7 @@ fn defined(name: &str) -> String {
 #[test]
 fn false_pairs_differ() {
     for name in FALSE {
-        let row = defined(&name.replace('_', "-"));
+        let row = defined(name);
         let words: Vec<&str> = row.split([' ', '(', ')']).filter(|word| !word.is_empty()).collect();
         let ["row", left, right, "unnamed", "different", strong, "different", weak] = words[..] else {
             panic!("{name}: {row}");
