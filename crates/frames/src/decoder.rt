@@ -34,6 +34,7 @@ fn has_stray(digits: &[u8]) -> bool
 }
 
 // The value of the last digit where it is without its second, and 16 where none is.
+#[tactic(auto, unfolding(crate::specs::internal::Alone::last_alone, crate::specs::Decoder::digit_of))]
 fn alone(digits: &[u8]) -> u8
     ensures { result ≡ last_alone digits.now }
 {
