@@ -28,6 +28,7 @@ BINDERS = re.compile(r"\(([^():]*) : ")
 USE = re.compile(r"^\s*(?:pub\s+)?(?:ghost\s+)?use\s+([^\s;{]+?)\.?(?:\{(.*)\})?(?:\s+as\s+(\S+?))?;?\s*$")
 # own names that would fall together with another one when respelled by rule, or read badly
 BY_HAND = {
+    "Without-exit": "WithoutExit",
     "is-deeper": "is_deeper_reads",
     "node-hash": "node_hash_reads",
     "nodesOf": "nodes_of_functions",

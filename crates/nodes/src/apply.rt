@@ -74,7 +74,7 @@ fn settle_not(f: u32, g: u32) -> Settled
 
 fn settle_fix(packed: &[u32], high: &[u32], used: u32, op: u32, f: u32, g: u32) -> Settled
     requires operands { Operands (packed_table packed.now high.now used) op f g }
-    requires le_op { 3 ≤ op }
+    requires is_fixing { 3 ≤ op }
     ensures { Settles (packed_table packed.now high.now used) op f g result }
 {
     if f < 2 {
@@ -174,7 +174,7 @@ pub struct Split {
 // A node and an entry, with the smaller one of their levels fixed to each bit.
 fn split_at_top(packed: &[u32], high: &[u32], used: u32, op: u32, f: u32, g: u32) -> Split
     requires operands { Operands (packed_table packed.now high.now used) op f g }
-    requires le_f { 2 ≤ f }
+    requires is_node { 2 ≤ f }
     ensures { Splits (packed_table packed.now high.now used) f g result }
 {
     let v = smaller(level_of(packed, f), level_of(packed, g));
@@ -203,7 +203,7 @@ fn finish(
 ) -> Made
     requires makeable { Makeable (table_of packed high used) v a b }
     requires indexing { Indexing (table_of packed high used) work.old }
-    requires op_le_last_operation { op ≤ last_operation }
+    requires is_operation { op ≤ last_operation }
     ensures { Finishing (table_in packed high used) packed.new high.new work.old work.new (node_fun (table_in packed high used) v a b) op f g result }
 {
     let Made::At(i, n) = make(packed, high, work, used, v, a, b) else {

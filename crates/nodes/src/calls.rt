@@ -24,7 +24,7 @@ fn apply(
     work: &mut [u32],
 ) -> Room
     requires ready { Ready (holding packed high work room) }
-    requires op_le_last_operation { op ≤ last_operation }
+    requires is_operation { op ≤ last_operation }
     ensures { Applies (entering packed high work room) (leaving packed high work result) op f g result.root }
 {
     if !can_apply(room, f, g) {
@@ -91,7 +91,7 @@ pub fn fix(
     work: &mut [u32],
 ) -> Room
     requires ready { Ready (holding packed high work room) }
-    requires v_le_last_level { v ≤ last_level }
+    requires levels_fit { v ≤ last_level }
     ensures { Maps (entering packed high work room) (leaving packed high work result) (fix v b) f result.root }
 {
     apply(fixing(v, b), f, 0, room, packed, high, work)
@@ -107,7 +107,7 @@ pub fn exists(
     work: &mut [u32],
 ) -> Room
     requires ready { Ready (holding packed high work room) }
-    requires v_le_last_level { v ≤ last_level }
+    requires levels_fit { v ≤ last_level }
     ensures { Maps (entering packed high work room) (leaving packed high work result) (some v) f result.root }
 {
     if !can_apply(room, f, f) {
@@ -139,7 +139,7 @@ pub fn node(
     work: &mut [u32],
 ) -> Room
     requires ready { Ready (holding packed high work room) }
-    requires v_le_last_level { v ≤ last_level }
+    requires levels_fit { v ≤ last_level }
     ensures { Chooses (entering packed high work room) (leaving packed high work result) v lo hi result.root }
 {
     if !can_apply(room, lo, hi) {

@@ -22,7 +22,7 @@ pub fn rename(
     work: &mut [u32],
 ) -> Room
     requires ready { Ready (holding packed high work room) }
-    requires v_le_last_level { (v ≤ last_level) × (w ≤ last_level) × (v ≡ w → ⊥) }
+    requires levels_fit { (v ≤ last_level) × (w ≤ last_level) × (v ≡ w → ⊥) }
     ensures { Maps (entering packed high work room) (leaving packed high work result) (renamed v w) f result.root }
 {
     if !can_apply(room, f, f) {
@@ -68,7 +68,7 @@ pub fn rename_from(
     work: &mut [u32],
 ) -> Room
     requires ready { Ready (holding packed high work room) }
-    requires fact { (v ≡ w → ⊥) × Spaced v k n 1 × Spaced w k n 1 }
+    requires spaced { (v ≡ w → ⊥) × Spaced v k n 1 × Spaced w k n 1 }
     ensures { Maps (entering packed high work room) (leaving packed high work result) (renamed_from v w k n) f result.root }
 {
     if n == 0 {
@@ -102,7 +102,7 @@ pub fn fix_below(
     work: &mut [u32],
 ) -> Room
     requires ready { Ready (holding packed high work room) }
-    requires n_le_last_level { n ≤ last_level }
+    requires levels_fit { n ≤ last_level }
     ensures { Maps (entering packed high work room) (leaving packed high work result) (fix_below n c) f result.root }
 {
     if n == 0 {

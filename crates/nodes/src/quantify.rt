@@ -121,7 +121,7 @@ fn finish_three(
 ) -> Three
     requires makeable_three { MakeableThree (table_of packed high used) l a b }
     requires indexing { Indexing (table_of packed high used) work.old }
-    requires v_le_last_level { (v ≤ last_level) × (f < max_length) }
+    requires levels_fit { (v ≤ last_level) × (f < max_length) }
     ensures { FinishingThree (table_in packed high used) packed.new high.new work.old work.new (node_funs (table_in packed high used) l a b) (quantifying v f) result }
 {
     let Three::At(r, n) = make_three(packed, high, work, used, l, a, b) else {
@@ -143,7 +143,7 @@ fn settle_three(
 ) -> Three
     requires quantifiable { Quantifiable (table_of packed high used) v f }
     requires helping { Helping (table_of packed high used) work.old }
-    requires l_value { (l ≡ level_of (table_of packed high used) f) × (v ≤ l) }
+    requires top_level { (l ≡ level_of (table_of packed high used) f) × (v ≤ l) }
     ensures { Quantifying (table_in packed high used) packed.new high.new work.new v (den (table_in packed high used) f) result }
 {
     if v < l {

@@ -21,7 +21,7 @@ fn guard(
     work: &mut [u32],
 ) -> Room
     requires ready { Ready (holding packed high work room) }
-    requires v_le_last_level { v ≤ last_level }
+    requires levels_fit { v ≤ last_level }
     ensures { Guards (entering packed high work room) (leaving packed high work result) (v + 1) (guarded v b) f result.root }
 {
     let lo = pick(b, 0, f);
@@ -40,7 +40,7 @@ fn pair(
     work: &mut [u32],
 ) -> Room
     requires ready { Ready (holding packed high work room) }
-    requires v_lt_w { (v < w) × (w ≤ last_level) }
+    requires deeper { (v < w) × (w ≤ last_level) }
     ensures { Guards (entering packed high work room) (leaving packed high work result) (w + 1) (paired v w) f result.root }
 {
     let a = guard(w, false, f, room, packed, high, work);
@@ -124,7 +124,7 @@ pub fn same(
     work: &mut [u32],
 ) -> Room
     requires ready { Ready (holding packed high work room) }
-    requires v_le_last_level { (v ≤ last_level) × (w ≤ last_level) × (v ≡ w → ⊥) }
+    requires levels_fit { (v ≤ last_level) × (w ≤ last_level) × (v ≡ w → ⊥) }
     ensures { Lists (entering packed high work room) (leaving packed high work result) (same v w) result.root }
 {
     pair(smaller(v, w), larger(v, w), 1, room, packed, high, work)

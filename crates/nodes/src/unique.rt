@@ -47,7 +47,7 @@ fn head_of(work: &[u32], v: u8, lo: u32, hi: u32) -> usize
 // The node of level v with children lo and hi, if it is one of the entries from `from` on.
 fn find_from(packed: &[u32], high: &[u32], used: u32, from: usize, v: u8, lo: u32, hi: u32) -> Found
     requires well_formed { WellFormed (packed_table packed.now high.now used) }
-    requires lo_lt_max_length { lo < max_length }
+    requires low_fits { lo < max_length }
     ensures { FindsFrom from (packed_table packed.now high.now used) v lo hi result }
 {
     if (used as usize) <= from {
@@ -84,7 +84,7 @@ fn find_chained(
     requires well_formed { WellFormed (packed_table packed.now high.now used) }
     requires indexing { Indexing (packed_table packed.now high.now used) work.now }
     requires begins { Begins work.now v lo hi head }
-    requires lo_lt_max_length { lo < max_length }
+    requires low_fits { lo < max_length }
     ensures { FindsBelow (coverage (heads_in work.now) (links_in work.now)) (packed_table packed.now high.now used) v lo hi result }
 {
     if head == 0 {
@@ -118,7 +118,7 @@ fn find(
     requires well_formed { WellFormed (packed_table packed.now high.now used) }
     requires indexing { Indexing (packed_table packed.now high.now used) work.now }
     requires begins { Begins work.now v lo hi head }
-    requires lo_lt_max_length { lo < max_length }
+    requires low_fits { lo < max_length }
     ensures { Finds (packed_table packed.now high.now used) v lo hi result }
 {
     match find_chained(packed, high, work, used, head, v, lo, hi) {

@@ -2,7 +2,6 @@
 ghost use Rattle.std.specs.Prelude.{◌≡◌};
 ghost use Rattle.nodes.specs.Table.{WellFormed};
 ghost use Rattle.nodes.specs.internal.Packed.{packed_table};
-ghost use Rattle.nodes.specs.internal.Lent.{table_of, table_in};
 ghost use Rattle.nodes.specs.internal.Zero.{holds_at_zero};
 
 use super::limits::MAX_LENGTH;

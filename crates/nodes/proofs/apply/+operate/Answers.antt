@@ -31,7 +31,7 @@ split_at_top-c-requires u c =
     let a = c.args in
     let pre = c.requires in
     let t = packed_table a.packed.now a.high.now a.used in
-    record { operands = pre.operands; le_f = (subst (Settles t a.op a.f a.g) c.in_default.is c.settle.ensures).0 }
+    record { operands = pre.operands; is_node = (subst (Settles t a.op a.f a.g) c.in_default.is c.settle.ensures).0 }
 
 pub operate-requires : goal.operate-requires
 operate-requires u c =
@@ -97,7 +97,7 @@ finish-requires u c =
     let t₁ = packed_table x.new.packed x.new.high c.in-At-operate.n in
     let y = c.operate-2 in
     let second = subst (Operating t₁ y.new.packed y.new.high y.new.work (operation a.op (den t₁ s.f1) (den t₁ s.g1))) c.in-At-operate-2.is y.ensures in
-    record { makeable = operate_makeable t a.op a.f a.g pre.operands is_open s sp _ _ first.0 _ _ second.0; indexing = second.1.indexed; op_le_last_operation = pre.operands.known }
+    record { makeable = operate_makeable t a.op a.f a.g pre.operands is_open s sp _ _ first.0 _ _ second.0; indexing = second.1.indexed; is_operation = pre.operands.known }
 
 pub returns : goal.returns
 returns u c =

@@ -16,7 +16,7 @@ returns-in_default c =
 
 pub remember-requires : goal.remember-requires
 remember-requires c =
-    omega (arith, c.requires.op_le_last_operation)
+    omega (arith, c.requires.is_operation)
 
 pub returns : goal.returns
 returns c =

@@ -11,7 +11,7 @@ use Rattle.nodes.proofs.apply.settle_fix.Goals as goal
 
 pub returns-then-f-lt2 : goal.returns-then-f-lt2
 returns-then-f-lt2 c =
-    fix_constant _ _ _ _ c.requires.operands c.requires.le_op c.if-f-lt2.true
+    fix_constant _ _ _ _ c.requires.operands c.requires.is_fixing c.if-f-lt2.true
 
 pub bounds-packed-at : goal.bounds-packed-at
 bounds-packed-at c =
@@ -23,13 +23,13 @@ returns-then-l-v c =
 
 pub returns-then-v-l : goal.returns-then-v-l
 returns-then-v-l c =
-    fix_deeper _ _ _ _ c.requires.operands c.requires.le_op (omega (arith, level_at c.args.packed.now c.args.f, c.if-v-l.true))
+    fix_deeper _ _ _ _ c.requires.operands c.requires.is_fixing (omega (arith, level_at c.args.packed.now c.args.f, c.if-v-l.true))
 
 pub returns-then-b-eq1 : goal.returns-then-b-eq1
 returns-then-b-eq1 c =
-    fix_high _ _ _ _ c.requires.operands c.requires.le_op c.if-b-eq1.true (omega (arith, c.if-f-lt2.false)) (omega (arith, level_at c.args.packed.now c.args.f, c.if-l-v.false, c.if-v-l.false))
+    fix_high _ _ _ _ c.requires.operands c.requires.is_fixing c.if-b-eq1.true (omega (arith, c.if-f-lt2.false)) (omega (arith, level_at c.args.packed.now c.args.f, c.if-l-v.false, c.if-v-l.false))
 
 pub returns : goal.returns
 returns c =
     subst (λ (k : ℕ). Settles (packed_table c.args.packed.now c.args.high.now c.args.used) c.args.op c.args.f c.args.g (settled.Is k)) (low_at c.args.packed.now c.args.f)
-    (fix_low _ _ _ _ c.requires.operands c.requires.le_op c.if-b-eq1.false (omega (arith, c.if-f-lt2.false)) (omega (arith, level_at c.args.packed.now c.args.f, c.if-l-v.false, c.if-v-l.false)))
+    (fix_low _ _ _ _ c.requires.operands c.requires.is_fixing c.if-b-eq1.false (omega (arith, c.if-f-lt2.false)) (omega (arith, level_at c.args.packed.now c.args.f, c.if-l-v.false, c.if-v-l.false)))

@@ -25,7 +25,7 @@ operate-m-requires c =
     let a = c.args in
     let pre = c.requires in
     let x = to_operate a.packed.now a.high.now a.work.now a.room a.f a.g (sym c.can_apply.ensures ∙ not-false _ c.if-not-can_apply.false-raw) in
-    record { operands = record { formed = pre.ready.formed x.0; known = pre.op_le_last_operation; left = x.1; right = x.2 }; helping = pre.ready.helped x.0 }
+    record { operands = record { formed = pre.ready.formed x.0; known = pre.is_operation; left = x.1; right = x.2 }; helping = pre.ready.helped x.0 }
 
 pub room_after-requires : goal.room_after-requires
 room_after-requires c =

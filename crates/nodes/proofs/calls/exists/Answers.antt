@@ -24,7 +24,7 @@ quantify-r-requires c =
     let a = c.args in
     let pre = c.requires in
     let x = to_operate a.packed.now a.high.now a.work.now a.room a.f a.f (sym c.can_apply.ensures ∙ not-false _ c.if-not-can_apply.false-raw) in
-    record { quantifiable = record { formed = pre.ready.formed x.0; in_range = pre.v_le_last_level; used = x.1 }; helping = pre.ready.helped x.0 }
+    record { quantifiable = record { formed = pre.ready.formed x.0; in_range = pre.levels_fit; used = x.1 }; helping = pre.ready.helped x.0 }
 
 pub room_after-requires : goal.room_after-requires
 room_after-requires c =

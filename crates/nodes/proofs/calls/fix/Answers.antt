@@ -5,7 +5,7 @@ use Rattle.nodes.proofs.calls.fix.Goals as goal
 
 pub apply-requires : goal.apply-requires
 apply-requires c =
-    record { ready = c.requires.ready; op_le_last_operation = rw c.fixing.ensures (fixing_known c.args.v c.args.b c.requires.v_le_last_level) }
+    record { ready = c.requires.ready; is_operation = rw c.fixing.ensures (fixing_known c.args.v c.args.b c.requires.levels_fit) }
 
 pub returns : goal.returns
 returns c =

@@ -27,7 +27,7 @@ returns-then-not-is_deeper c =
     let a = c.args in
     record {
       after = after_none c.requires.ready;
-      adds = λ F G x y p q. not_chosen a.packed.now a.high.now a.work.now a.room a.v a.lo c.requires.v_le_last_level c.requires.ready (sym c.is_deeper.ensures ∙ not-true _ c.if-not-is_deeper.true-raw) x p;
+      adds = λ F G x y p q. not_chosen a.packed.now a.high.now a.work.now a.room a.v a.lo c.requires.levels_fit c.requires.ready (sym c.is_deeper.ensures ∙ not-true _ c.if-not-is_deeper.true-raw) x p;
       nothing = λ _. refl;
       not_above = λ _. refl;
     }
@@ -37,7 +37,7 @@ returns-then-not-is_deeper-2 c =
     let a = c.args in
     record {
       after = after_none c.requires.ready;
-      adds = λ F G x y p q. not_chosen a.packed.now a.high.now a.work.now a.room a.v a.hi c.requires.v_le_last_level c.requires.ready (sym c.is_deeper-2.ensures ∙ not-true _ c.if-not-is_deeper-2.true-raw) y q;
+      adds = λ F G x y p q. not_chosen a.packed.now a.high.now a.work.now a.room a.v a.hi c.requires.levels_fit c.requires.ready (sym c.is_deeper-2.ensures ∙ not-true _ c.if-not-is_deeper-2.true-raw) y q;
       nothing = λ _. refl;
       not_above = λ _. refl;
     }
@@ -49,7 +49,7 @@ make-m-requires c =
     let x = to_operate a.packed.now a.high.now a.work.now a.room a.lo a.hi (sym c.can_apply.ensures ∙ not-false _ c.if-not-can_apply.false-raw) in
     let lo = is_deeper_reads a.packed.now a.high.now a.work.now a.room a.v a.lo (sym c.is_deeper.ensures ∙ not-false _ c.if-not-is_deeper.false-raw) in
     let hi = is_deeper_reads a.packed.now a.high.now a.work.now a.room a.v a.hi (sym c.is_deeper-2.ensures ∙ not-false _ c.if-not-is_deeper-2.false-raw) in
-    let ok : Makeable (store a.packed.now a.high.now a.work.now a.room).table a.v a.lo a.hi = record { formed = pre.ready.formed x.0; in_range = pre.v_le_last_level; low_used = x.1; high_used = x.2; low_deeper = lo; high_deeper = hi } in
+    let ok : Makeable (store a.packed.now a.high.now a.work.now a.room).table a.v a.lo a.hi = record { formed = pre.ready.formed x.0; in_range = pre.levels_fit; low_used = x.1; high_used = x.2; low_deeper = lo; high_deeper = hi } in
     record { makeable = ok; indexing = (pre.ready.helped x.0).indexed }
 
 pub room_after-requires : goal.room_after-requires
@@ -66,7 +66,7 @@ returns c =
     let x = to_operate a.packed.now a.high.now a.work.now a.room a.lo a.hi (sym c.can_apply.ensures ∙ not-false _ c.if-not-can_apply.false-raw) in
     let lo = is_deeper_reads a.packed.now a.high.now a.work.now a.room a.v a.lo (sym c.is_deeper.ensures ∙ not-false _ c.if-not-is_deeper.false-raw) in
     let hi = is_deeper_reads a.packed.now a.high.now a.work.now a.room a.v a.hi (sym c.is_deeper-2.ensures ∙ not-false _ c.if-not-is_deeper-2.false-raw) in
-    let ok : Makeable (store a.packed.now a.high.now a.work.now a.room).table a.v a.lo a.hi = record { formed = pre.ready.formed x.0; in_range = pre.v_le_last_level; low_used = x.1; high_used = x.2; low_deeper = lo; high_deeper = hi } in
+    let ok : Makeable (store a.packed.now a.high.now a.work.now a.room).table a.v a.lo a.hi = record { formed = pre.ready.formed x.0; in_range = pre.levels_fit; low_used = x.1; high_used = x.2; low_deeper = lo; high_deeper = hi } in
     let o = c.make-m in
     let s = store a.packed.now a.high.now a.work.now a.room in
     let packed = o.new.packed in

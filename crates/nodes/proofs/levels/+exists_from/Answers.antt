@@ -26,7 +26,7 @@ exists_from-m-requires t c =
 pub exists-requires : goal.exists-requires
 exists-requires t c =
     let (h, next) = spaced_next c.args.n (omega (arith, c.if-n-eq0.false)) (omega arith) c.requires.spaced in
-    record { ready = c.exists_from-m.ensures.after.ready; v_le_last_level = omega arith }
+    record { ready = c.exists_from-m.ensures.after.ready; levels_fit = omega arith }
 
 pub returns : goal.returns
 returns t c =

@@ -15,11 +15,11 @@ returns-then-n-eq0 t c =
 
 pub fix_below-m-requires : goal.fix_below-m-requires
 fix_below-m-requires t c =
-    (omega (arith, c.decreases, c.if-n-eq0.false), (c.requires.ready, omega (arith, c.requires.n_le_last_level)))
+    (omega (arith, c.decreases, c.if-n-eq0.false), (c.requires.ready, omega (arith, c.requires.levels_fit)))
 
 pub fix-requires : goal.fix-requires
 fix-requires t c =
-    record { ready = c.fix_below-m.ensures.after.ready; v_le_last_level = omega (arith, c.requires.n_le_last_level) }
+    record { ready = c.fix_below-m.ensures.after.ready; levels_fit = omega (arith, c.requires.levels_fit) }
 
 pub returns : goal.returns
 returns t c =

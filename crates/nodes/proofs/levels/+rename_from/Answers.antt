@@ -15,27 +15,27 @@ returns-then-n-eq0 t c =
 
 pub overflow_add-v : goal.overflow_add-v
 overflow_add-v t c =
-    let (h, next) = spaced_next c.args.n (omega (arith, c.if-n-eq0.false)) (omega arith) c.requires.fact.1 in
-    let (h', next') = spaced_next c.args.n (omega (arith, c.if-n-eq0.false)) (omega arith) c.requires.fact.2 in
-    omega (arith, c.requires.fact.1.near)
+    let (h, next) = spaced_next c.args.n (omega (arith, c.if-n-eq0.false)) (omega arith) c.requires.spaced.1 in
+    let (h', next') = spaced_next c.args.n (omega (arith, c.if-n-eq0.false)) (omega arith) c.requires.spaced.2 in
+    omega (arith, c.requires.spaced.1.near)
 
 pub overflow_add-w : goal.overflow_add-w
 overflow_add-w t c =
-    let (h, next) = spaced_next c.args.n (omega (arith, c.if-n-eq0.false)) (omega arith) c.requires.fact.1 in
-    let (h', next') = spaced_next c.args.n (omega (arith, c.if-n-eq0.false)) (omega arith) c.requires.fact.2 in
-    omega (arith, c.requires.fact.1.near)
+    let (h, next) = spaced_next c.args.n (omega (arith, c.if-n-eq0.false)) (omega arith) c.requires.spaced.1 in
+    let (h', next') = spaced_next c.args.n (omega (arith, c.if-n-eq0.false)) (omega arith) c.requires.spaced.2 in
+    omega (arith, c.requires.spaced.1.near)
 
 pub rename_from-m-requires : goal.rename_from-m-requires
 rename_from-m-requires t c =
-    let (h, next) = spaced_next c.args.n (omega (arith, c.if-n-eq0.false)) (omega arith) c.requires.fact.1 in
-    let (h', next') = spaced_next c.args.n (omega (arith, c.if-n-eq0.false)) (omega arith) c.requires.fact.2 in
-    (omega (arith, c.decreases), (c.requires.ready, (λ e. c.requires.fact.0 (omega arith), next, next')))
+    let (h, next) = spaced_next c.args.n (omega (arith, c.if-n-eq0.false)) (omega arith) c.requires.spaced.1 in
+    let (h', next') = spaced_next c.args.n (omega (arith, c.if-n-eq0.false)) (omega arith) c.requires.spaced.2 in
+    (omega (arith, c.decreases), (c.requires.ready, (λ e. c.requires.spaced.0 (omega arith), next, next')))
 
 pub rename-requires : goal.rename-requires
 rename-requires t c =
-    let (h, next) = spaced_next c.args.n (omega (arith, c.if-n-eq0.false)) (omega arith) c.requires.fact.1 in
-    let (h', next') = spaced_next c.args.n (omega (arith, c.if-n-eq0.false)) (omega arith) c.requires.fact.2 in
-    record { ready = c.rename_from-m.ensures.after.ready; v_le_last_level = (omega arith, omega arith, c.requires.fact.0) }
+    let (h, next) = spaced_next c.args.n (omega (arith, c.if-n-eq0.false)) (omega arith) c.requires.spaced.1 in
+    let (h', next') = spaced_next c.args.n (omega (arith, c.if-n-eq0.false)) (omega arith) c.requires.spaced.2 in
+    record { ready = c.rename_from-m.ensures.after.ready; levels_fit = (omega arith, omega arith, c.requires.spaced.0) }
 
 pub returns : goal.returns
 returns t c =

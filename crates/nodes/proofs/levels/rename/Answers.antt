@@ -10,7 +10,7 @@ use Rattle.nodes.proofs.levels.rename.Goals as goal
 
 pub exists-requires : goal.exists-requires
 exists-requires c =
-    record { ready = c.and-g.ensures.after.ready; v_le_last_level = c.requires.v_le_last_level.0 }
+    record { ready = c.and-g.ensures.after.ready; levels_fit = c.requires.levels_fit.0 }
 
 pub returns-then-not-can_apply : goal.returns-then-not-can_apply
 returns-then-not-can_apply c =

@@ -26,7 +26,7 @@ settle_three-requires u c =
     let a = c.args in
     let pre = c.requires in
     let t = packed_table a.packed.now a.high.now a.used in
-    record { quantifiable = pre.quantifiable; helping = pre.helping; l_value = (c.level_of-l.ensures, c.if-v-l.true) }
+    record { quantifiable = pre.quantifiable; helping = pre.helping; top_level = (c.level_of-l.ensures, c.if-v-l.true) }
 
 pub returns-then-v-l : goal.returns-then-v-l
 returns-then-v-l u c =
@@ -149,7 +149,7 @@ finish_three-requires u c =
     let two = c.quantify-2.new in
     let then = subst (Quantifying t₁ two.packed two.high two.work a.v (den t₁ f1)) c.in-At-quantify-2.is c.quantify-2.ensures in
     let t₂ = packed_table two.packed two.high c.in-At-quantify-2.m in
-    record { makeable_three = quantify_makeable t a.v a.f pre.quantifiable l top above f0 f1 low high t₁ c.in-At-quantify.a said.0 t₂ c.in-At-quantify-2.b then.0; indexing = then.1.indexed; v_le_last_level = (pre.quantifiable.in_range, omega (arith, pre.quantifiable.used, pre.quantifiable.formed.room, pre.quantifiable.formed.most)) }
+    record { makeable_three = quantify_makeable t a.v a.f pre.quantifiable l top above f0 f1 low high t₁ c.in-At-quantify.a said.0 t₂ c.in-At-quantify-2.b then.0; indexing = then.1.indexed; levels_fit = (pre.quantifiable.in_range, omega (arith, pre.quantifiable.used, pre.quantifiable.formed.room, pre.quantifiable.formed.most)) }
 
 pub returns : goal.returns
 returns u c =

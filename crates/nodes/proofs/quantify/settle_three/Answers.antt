@@ -14,7 +14,7 @@ returns-then-v-l c =
     let a = c.args in
     let pre = c.requires in
     let t = packed_table a.packed.now a.high.now a.used in
-    (settle_deeper t a.v a.f pre.quantifiable (subst (λ (n : ℕ). a.v < n) pre.l_value.0 c.if-v-l.true), pre.helping)
+    (settle_deeper t a.v a.f pre.quantifiable (subst (λ (n : ℕ). a.v < n) pre.top_level.0 c.if-v-l.true), pre.helping)
 
 pub low_cofactor-zero-requires : goal.low_cofactor-zero-requires
 low_cofactor-zero-requires c =
@@ -29,7 +29,7 @@ operate-requires c =
     let a = c.args in
     let pre = c.requires in
     let t = packed_table a.packed.now a.high.now a.used in
-    let top = subst (λ (n : ℕ). a.v ≤ n) pre.l_value.0 pre.l_value.1 in
+    let top = subst (λ (n : ℕ). a.v ≤ n) pre.top_level.0 pre.top_level.1 in
     let low = low_fixed t a.v a.f pre.quantifiable a.v pre.quantifiable.in_range top c.low_cofactor-zero.result c.low_cofactor-zero.ensures in
     let high = high_fixed t a.v a.f pre.quantifiable a.v pre.quantifiable.in_range top c.high_cofactor-one.result c.high_cofactor-one.ensures in
     record { operands = settle_operands t a.v a.f pre.quantifiable c.low_cofactor-zero.result c.high_cofactor-one.result low high; helping = pre.helping }
@@ -39,7 +39,7 @@ returns-in_default c =
     let a = c.args in
     let pre = c.requires in
     let t = packed_table a.packed.now a.high.now a.used in
-    let top = subst (λ (n : ℕ). a.v ≤ n) pre.l_value.0 pre.l_value.1 in
+    let top = subst (λ (n : ℕ). a.v ≤ n) pre.top_level.0 pre.top_level.1 in
     let low = low_fixed t a.v a.f pre.quantifiable a.v pre.quantifiable.in_range top c.low_cofactor-zero.result c.low_cofactor-zero.ensures in
     let high = high_fixed t a.v a.f pre.quantifiable a.v pre.quantifiable.in_range top c.high_cofactor-one.result c.high_cofactor-one.ensures in
     let o = c.operate in
@@ -50,7 +50,7 @@ returns c =
     let a = c.args in
     let pre = c.requires in
     let t = packed_table a.packed.now a.high.now a.used in
-    let top = subst (λ (n : ℕ). a.v ≤ n) pre.l_value.0 pre.l_value.1 in
+    let top = subst (λ (n : ℕ). a.v ≤ n) pre.top_level.0 pre.top_level.1 in
     let low = low_fixed t a.v a.f pre.quantifiable a.v pre.quantifiable.in_range top c.low_cofactor-zero.result c.low_cofactor-zero.ensures in
     let high = high_fixed t a.v a.f pre.quantifiable a.v pre.quantifiable.in_range top c.high_cofactor-one.result c.high_cofactor-one.ensures in
     let o = c.operate in

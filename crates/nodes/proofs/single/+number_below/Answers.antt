@@ -36,7 +36,7 @@ number_below-b-requires t c =
 pub node-requires : goal.node-requires
 node-requires t c =
     let (h, next) = spaced_next c.args.w (omega (arith, c.if-w-eq0.false)) (omega arith) c.requires.spaced in
-    record { ready = c.number_below-b.ensures.after.ready; v_le_last_level = omega arith }
+    record { ready = c.number_below-b.ensures.after.ready; levels_fit = omega arith }
 
 pub returns : goal.returns
 returns t c =

@@ -26,7 +26,7 @@ number_is-m-requires t c =
 pub guard-requires : goal.guard-requires
 guard-requires t c =
     let (h, next) = spaced_next c.args.w (omega (arith, c.if-w-eq0.false)) (omega arith) c.requires.spaced in
-    record { ready = c.number_is-m.ensures.after.ready; v_le_last_level = omega arith }
+    record { ready = c.number_is-m.ensures.after.ready; levels_fit = omega arith }
 
 pub returns : goal.returns
 returns t c =

@@ -31,7 +31,7 @@ overflow_add-v-2 t c =
 pub pair-requires : goal.pair-requires
 pair-requires t c =
     let (h, next) = spaced_next c.args.w (omega (arith, c.if-w-eq0.false)) (omega arith) c.requires.spaced in
-    record { ready = c.numbers_same-m.ensures.after.ready; v_lt_w = (omega arith, omega arith) }
+    record { ready = c.numbers_same-m.ensures.after.ready; deeper = (omega arith, omega arith) }
 
 pub returns : goal.returns
 returns t c =

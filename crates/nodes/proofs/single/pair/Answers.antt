@@ -6,11 +6,11 @@ use Rattle.nodes.proofs.single.pair.Goals as goal
 
 pub guard-b-requires : goal.guard-b-requires
 guard-b-requires c =
-    record { ready = c.guard-a.ensures.after.ready; v_le_last_level = c.requires.v_lt_w.1 }
+    record { ready = c.guard-a.ensures.after.ready; levels_fit = c.requires.deeper.1 }
 
 pub node-requires : goal.node-requires
 node-requires c =
-    record { ready = c.guard-b.ensures.after.ready; v_le_last_level = omega (arith, c.requires.v_lt_w.0, c.requires.v_lt_w.1) }
+    record { ready = c.guard-b.ensures.after.ready; levels_fit = omega (arith, c.requires.deeper.0, c.requires.deeper.1) }
 
 pub returns : goal.returns
 returns c =
@@ -22,4 +22,4 @@ returns c =
     let s₁ = store x.new.packed x.new.high x.new.work x.result in
     let s₂ = store y.new.packed y.new.high y.new.work y.result in
     let s₃ = store z.new.packed z.new.high z.new.work z.result in
-    pairs {s = s} {s₁ = s₁} {s₂ = s₂} {s₃ = s₃} a.v a.w c.requires.v_lt_w.0 x.ensures y.ensures z.ensures
+    pairs {s = s} {s₁ = s₁} {s₂ = s₂} {s₃ = s₃} a.v a.w c.requires.deeper.0 x.ensures y.ensures z.ensures

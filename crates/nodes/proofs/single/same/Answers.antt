@@ -6,10 +6,10 @@ use Rattle.nodes.proofs.single.same.Goals as goal
 
 pub pair-requires : goal.pair-requires
 pair-requires c =
-    let p = c.requires.v_le_last_level in
+    let p = c.requires.levels_fit in
     let lo = c.smaller.ensures in
     let hi = c.larger.ensures in
-    record { ready = c.requires.ready; v_lt_w = (omega (arith, lo, hi, p.2), omega (arith, hi, p.0, p.1)) }
+    record { ready = c.requires.ready; deeper = (omega (arith, lo, hi, p.2), omega (arith, hi, p.0, p.1)) }
 
 pub returns : goal.returns
 returns c =

@@ -11,10 +11,10 @@ returns-then-head-eq0 c i h n =
     let e = work_uncovered c.args.work.now (c.requires.begins.in_index.none c.if-head-eq0.true) in omega arith
 
 pub overflow_mul-word : goal.overflow_mul-word
-overflow_mul-word c = omega (arith, c.requires.lo_lt_max_length)
+overflow_mul-word c = omega (arith, c.requires.low_fits)
 
 pub overflow_add-word : goal.overflow_add-word
-overflow_add-word c = omega (arith, c.requires.lo_lt_max_length)
+overflow_add-word c = omega (arith, c.requires.low_fits)
 
 pub offset_bounds-work-head : goal.offset_bounds-work-head
 offset_bounds-work-head c = omega (arith, index_fits c.args.work.now, c.requires.begins.in_index.to (omega (arith, c.if-head-eq0.false)))
@@ -48,7 +48,7 @@ bounds-high-at c =
 
 pub returns-then-high-at : goal.returns-then-high-at
 returns-then-high-at c =
-    node_there _ _ _ _ _ _ _ c.requires.lo_lt_max_length c.loop-i-test.true c.loop-i.invariant.used c.if-packed-at.true c.if-high-at.true
+    node_there _ _ _ _ _ _ _ c.requires.low_fits c.loop-i-test.true c.loop-i.invariant.used c.if-packed-at.true c.if-high-at.true
 
 pub overflow_add-i : goal.overflow_add-i
 overflow_add-i c =

@@ -11,10 +11,10 @@ pub returns-then-used-from : goal.returns-then-used-from
 returns-then-used-from c i h n = let u = n.used in omega arith
 
 pub overflow_mul-word : goal.overflow_mul-word
-overflow_mul-word c = omega (arith, c.requires.lo_lt_max_length)
+overflow_mul-word c = omega (arith, c.requires.low_fits)
 
 pub overflow_add-word : goal.overflow_add-word
-overflow_add-word c = omega (arith, c.requires.lo_lt_max_length)
+overflow_add-word c = omega (arith, c.requires.low_fits)
 
 pub loop-i-init : goal.loop-i-init
 loop-i-init c =
@@ -33,7 +33,7 @@ bounds-high-at c =
 
 pub returns-then-high-at : goal.returns-then-high-at
 returns-then-high-at c =
-    node_there _ _ _ _ _ _ _ c.requires.lo_lt_max_length c.loop-i.invariant.0 c.loop-i-test.true c.if-packed-at.true c.if-high-at.true
+    node_there _ _ _ _ _ _ _ c.requires.low_fits c.loop-i.invariant.0 c.loop-i-test.true c.if-packed-at.true c.if-high-at.true
 
 pub loop-i-preserved : goal.loop-i-preserved
 loop-i-preserved c = (

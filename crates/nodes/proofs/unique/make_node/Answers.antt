@@ -19,7 +19,7 @@ pub find-requires : goal.find-requires
 find-requires c =
     let a = c.args in
     let pre = c.requires in
-    record { well_formed = pre.makeable.formed; indexing = pre.indexing; begins = c.head_of-head.ensures; lo_lt_max_length = child_small a.packed.now a.high.now a.used a.v a.lo a.hi pre.makeable }
+    record { well_formed = pre.makeable.formed; indexing = pre.indexing; begins = c.head_of-head.ensures; low_fits = child_small a.packed.now a.high.now a.used a.v a.lo a.hi pre.makeable }
 
 pub overflow_mul-packed : goal.overflow_mul-packed
 overflow_mul-packed c = omega arith
