@@ -30,6 +30,7 @@ pub fn slices_fit(level: &[u8], low: &[u32], high: &[u32]) -> bool
 }
 
 // An action of 6 bits, and state codes of at most MAX_BITS.
+#[tactic(auto, unfolding(crate::specs::Lookup::small))]
 fn values_fit(action: u64, x: u64, x1: u64, y: u64, y1: u64) -> bool
     ensures { result ≡ small action x x1 y y1 }
 {
