@@ -9,6 +9,7 @@ use Rattle.frames.specs.declared.bytes.Decoded.{Decoded}
 use Rattle.frames.specs.declared.bytes.Decoding.{Decoding}
 use Rattle.frames.specs.declared.bytes.Decoding.TheVariants.{Bytes, Stray, Long}
 use Rattle.frames.specs.declared.decoder.Decoder.{Decoder}
+use Rattle.frames.specs.declared.refusal.Refusal.TheVariants.{Spelling, Size}
 use Rattle.frames.specs.declared.summary.Summary.{Summary}
 use Rattle.frames.specs.Summary.{max_bits, refused, taken_of}
 use Rattle.frames.specs.internal.Alone.{last_alone}
@@ -339,11 +340,11 @@ module _ (d : Decoder) (r : Decoded) (is : r ≡ finished d) where
     unfolding taken_state taken_by
     state_bytes n e = rw ((finished_part n e).1, finished_answer ∙ e)
 
-    pub state_stray : r.answer ≡ Stray → refused s 1 ≡ taken_state s d
+    pub state_stray : r.answer ≡ Stray → refused s Spelling ≡ taken_state s d
     unfolding taken_state taken_by
     state_stray e = rw (finished_answer ∙ e)
 
-    pub state_long : r.answer ≡ Long → refused s 2 ≡ taken_state s d
+    pub state_long : r.answer ≡ Long → refused s Size ≡ taken_state s d
     unfolding taken_state taken_by
     state_long e = rw (finished_answer ∙ e)
 

@@ -7,6 +7,7 @@ use Rattle.frames.specs.declared.bytes.Decoding.{Decoding}
 use Rattle.frames.specs.declared.bytes.Decoding.TheVariants.{Bytes, Stray, Long}
 use Rattle.frames.specs.declared.bytes.Decoded.{Decoded}
 use Rattle.frames.specs.declared.decoder.Decoder.{Decoder}
+use Rattle.frames.specs.declared.refusal.Refusal.TheVariants.{Spelling, Size}
 use Rattle.frames.specs.declared.summary.Summary.{Summary}
 use Rattle.frames.specs.declared.summary.Taken.{Taken}
 
@@ -65,8 +66,8 @@ finished d = record { answer = answered d; bytes = handed (answered d) d.bytes }
 -- refusal 1 for a stray byte or a digit alone, refusal 2 for more than 255 bytes, else what the bytes give
 unfoldable pub taken_by : Summary → Decoding → List ℕ → Taken
 taken_by s (Bytes n) b = taken_of max_bits s (take n b)
-taken_by s Stray b = refused s 1
-taken_by s Long b = refused s 2
+taken_by s Stray b = refused s Spelling
+taken_by s Long b = refused s Size
 
 -- Reading a line from the state that its bytes left, after the lines that the summary tells of.
 unfoldable pub taken_state : Summary → Decoder → Taken

@@ -1,0 +1,51 @@
+// Why a line is refused.
+ghost use Rattle.std.specs.Prelude.{◌≡◌};
+ghost use Rattle.frames.specs.Numbers.{refusal_number};
+
+use std::fmt;
+
+#[derive(Clone, Copy, Debug, PartialEq, Eq)]
+pub enum Refusal {
+    // The text is empty, a byte is no digit, a digit is alone, or the line is unended.
+    Spelling,
+    // A frame has fewer than 2 or more than 255 bytes.
+    Size,
+    // Byte 0 is not the line's number, or line 64 is reached.
+    Number,
+    // There is no such kind, or its frames can't have this length.
+    Kind,
+    // A state count, a state, an action, a channel or an operand is out of range.
+    Range,
+    // The process has too many bits or leaf uses.
+    Limits,
+}
+
+impl Refusal {
+    // Its number in document 01.
+    pub fn number(self) -> u8
+        ensures { result ≡ refusal_number self }
+    {
+        match self {
+            Refusal::Spelling => 1,
+            Refusal::Size => 2,
+            Refusal::Number => 3,
+            Refusal::Kind => 4,
+            Refusal::Range => 5,
+            Refusal::Limits => 6,
+        }
+    }
+}
+
+impl fmt::Display for Refusal {
+    fn fmt<W: fmt::Write>(&self, f: &mut fmt::Formatter<W>) -> fmt::Result {
+        let words = match self {
+            Refusal::Spelling => "no line of hexadecimal digits",
+            Refusal::Size => "fewer than 2 or more than 255 bytes",
+            Refusal::Number => "not the line's number, or line 64",
+            Refusal::Kind => "unknown kind, or a length that the kind can't have",
+            Refusal::Range => "state count, state, action, channel or operand out of range",
+            Refusal::Limits => "too many bits or leaf uses",
+        };
+        f.write_str(words)
+    }
+}
