@@ -8,7 +8,7 @@ mod pieces;
 
 use frames::reader::{after_from, digits_from};
 use frames::summary::Summary;
-use frames::text::{Reading, Verdict, read};
+use frames::text::{TextError, read};
 use std::io;
 
 fn say(rt: &impl Print, text: &[u8]) -> io::Result<()> {
@@ -40,13 +40,10 @@ fn text_of(c: &[u8]) -> &[u8] {
 fn accepted(rt: &impl Print, s: Summary) -> io::Result<()> {
     say(rt, b" accepted")?;
     number(rt, s.lines as u64)?;
-    let bits = s.bits;
-    let uses = s.uses;
-    let states = s.states;
-    let last = (s.lines % 64 + 63) % 64;
-    number(rt, small(bits[last]))?;
-    number(rt, small(uses[last]))?;
-    number(rt, large(states[last]))
+    let last = s.counts_at((s.lines % 64 + 63) % 64);
+    number(rt, small(last.bits))?;
+    number(rt, small(last.uses))?;
+    number(rt, large(last.states))
 }
 
 fn refused(rt: &impl Print, n: u8, line: usize) -> io::Result<()> {
@@ -56,14 +53,10 @@ fn refused(rt: &impl Print, n: u8, line: usize) -> io::Result<()> {
 }
 
 // What reading a text answers.
-fn answer(rt: &impl Print, r: Reading) -> io::Result<()> {
-    let v = r.verdict;
-    match v {
-        Verdict::Accepted => {
-            let s = r.summary;
-            accepted(rt, s)
-        }
-        Verdict::Refused { number: n, line } => refused(rt, n, line),
+fn answer(rt: &impl Print, r: Result<Summary, TextError>) -> io::Result<()> {
+    match r {
+        Ok(summary) => accepted(rt, summary),
+        Err(e) => refused(rt, e.refusal.number(), e.line),
     }
 }
 

@@ -5,8 +5,9 @@ use super::{answer, case, number, say};
 use frames::decoder::Decoder;
 use frames::line::LineState;
 use frames::reader::{after_from, digits_from, state_from};
-use frames::summary::{Answer, Summary};
-use frames::text::{Reading, Verdict};
+use frames::refusal::Refusal;
+use frames::summary::Summary;
+use frames::text::TextError;
 use std::io;
 
 const NEWLINE: u8 = 10;
@@ -14,13 +15,13 @@ const NEWLINE: u8 = 10;
 // A piece of at most 64 bytes has no more lines.
 const MOST: usize = 64;
 
-// The lines accepted, the state of the line that goes on, whether it has begun, and the number of the first refusal (0: there is none).
+// The lines accepted, the state of the line that goes on, whether it has begun, and the first refusal.
 #[derive(Clone, Copy)]
 struct Progress {
     summary: Summary,
     decoder: Decoder,
     begun: bool,
-    refusal: u8,
+    refusal: Option<Refusal>,
 }
 
 fn begin() -> Progress {
@@ -28,14 +29,7 @@ fn begin() -> Progress {
         summary: Summary::new(),
         decoder: Decoder::new(),
         begun: false,
-        refusal: 0,
-    }
-}
-
-fn number_of(a: Answer) -> u8 {
-    match a {
-        Answer::Accepted(_) => 0,
-        Answer::Refused(n) => n,
+        refusal: None,
     }
 }
 
@@ -44,13 +38,11 @@ fn end_line(p: Progress, digits: &[u8]) -> Progress {
     let decoder = p.decoder;
     let before = p.summary;
     let taken = before.take_decoder(decoder.run(digits));
-    let summary = taken.summary;
-    let answer = taken.answer;
     Progress {
-        summary,
+        summary: taken.summary,
         decoder: Decoder::new(),
         begun: false,
-        refusal: number_of(answer),
+        refusal: taken.answer.err(),
     }
 }
 
@@ -76,7 +68,7 @@ fn read_piece(p: Progress, piece: &[u8]) -> Progress {
     let mut q = p;
     let mut at = 0;
     for k in 0..MOST {
-        if q.refusal == 0 {
+        if q.refusal.is_none() {
             q = line(q, piece, at);
             at = after_from(piece, at);
         }
@@ -96,10 +88,10 @@ fn read_byte(p: Progress, b: u8) -> Progress {
     q
 }
 
-fn read_bytes(text: &[u8]) -> Reading {
+fn read_bytes(text: &[u8]) -> Result<Summary, TextError> {
     let mut p = begin();
     for i in 0..text.len() {
-        if p.refusal == 0 {
+        if p.refusal.is_none() {
             p = read_byte(p, text[i]);
         }
     }
@@ -115,31 +107,27 @@ fn piece_end(len: usize, at: usize, size: usize) -> usize
 }
 
 // What the text answers where its bytes end here: an empty text and an unended line are refused with 1.
-fn close(p: Progress) -> Reading {
+fn close(p: Progress) -> Result<Summary, TextError> {
     let summary = p.summary;
     let line = summary.lines;
-    if p.refusal != 0 {
-        return Reading {
+    if let Some(refusal) = p.refusal {
+        return Err(TextError {
+            refusal,
+            line,
             summary,
-            verdict: Verdict::Refused {
-                number: p.refusal,
-                line,
-            },
-        };
+        });
     }
     if p.begun || line == 0 {
-        return Reading {
+        return Err(TextError {
+            refusal: Refusal::Spelling,
+            line,
             summary,
-            verdict: Verdict::Refused { number: 1, line },
-        };
+        });
     }
-    Reading {
-        summary,
-        verdict: Verdict::Accepted,
-    }
+    Ok(summary)
 }
 
-fn read_pieces(text: &[u8], size: usize) -> Reading
+fn read_pieces(text: &[u8], size: usize) -> Result<Summary, TextError>
     requires { 1 ≤ size }
 {
     let mut p = begin();

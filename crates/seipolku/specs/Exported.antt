@@ -1,10 +1,11 @@
 -- What the exported functions answer: numbers for C, and the words of an answer. Assumes nothing.
-use Rattle.std.specs.Prelude.{◌≡◌, List, [], ◌∷◌, ℕ, ◌+◌, ◌≤◌, ◌<◌, length, set}
+use Rattle.std.specs.Prelude.{◌≡◌, Result, Ok, Err, List, [], ◌∷◌, ℕ, ◌+◌, ◌≤◌, ◌<◌, length, set}
 use Rattle.frames.specs.Line.{lines_of}
 use Rattle.frames.specs.Text.{read_text}
 use Rattle.frames.specs.Process.{width, leaves, state_count, model_of}
-use Rattle.frames.specs.declared.text.Verdict.{Verdict}
-use Rattle.frames.specs.declared.text.Verdict.TheVariants as text
+use Rattle.frames.specs.Numbers.{refusal_number}
+use Rattle.frames.specs.declared.summary.Summary.{Summary}
+use Rattle.frames.specs.declared.text.TextError.{TextError}
 use Rattle.nodes.specs.Lookup.{Slices, number_of as looked_number, values_of as looked_values}
 use Rattle.nodes.specs.declared.lookup.Looked.{Looked}
 use Rattle.verdicts.specs.Bisimulation.{strong, weak}
@@ -64,17 +65,17 @@ numbered l = first_of (looked_values l) (looked_number l)
 -- ---- what a text's model is
 
 -- 0: the text is accepted, 2: it is refused
-abbrev pub read_kind : Verdict → ℕ
-read_kind text.Accepted = 0
-read_kind (text.Refused number line) = 2
+abbrev pub read_kind : Result Summary TextError → ℕ
+read_kind (Ok s) = 0
+read_kind (Err e) = 2
 
 -- the words for an accepted text: the bits of its model, its lines, the leaf uses and the states of its model, 0, 0; and for a refused one
 -- the first six of the same refusal by a comparison that has it on the left
-abbrev pub model_words : List ℕ → List ℕ → Verdict → List ℕ
-model_words words t text.Accepted = six words 0 (width (model_of t)) (length (lines_of t)) (leaves (model_of t)) (state_count (model_of t)) 0 0
-model_words words t (text.Refused number line) = refusal_words words (values_of (Refused number 0 line))
+abbrev pub model_words : List ℕ → List ℕ → Result Summary TextError → List ℕ
+model_words words t (Ok s) = six words 0 (width (model_of t)) (length (lines_of t)) (leaves (model_of t)) (state_count (model_of t)) 0 0
+model_words words t (Err e) = refusal_words words (values_of (Refused (refusal_number e.refusal) 0 e.line))
 
 -- The contract of the exported call that tells what a text's model is. With fewer than six words for the answer it returns 3 and touches nothing.
 pub record Described (t words words' : List ℕ) (returned : ℕ) : Type 0 where
   pub short : length words < 6 → (returned ≡ 3) × (words' ≡ words)
-  pub long : 6 ≤ length words → (returned ≡ read_kind (read_text t).verdict) × (words' ≡ model_words words t (read_text t).verdict)
+  pub long : 6 ≤ length words → (returned ≡ read_kind (read_text t)) × (words' ≡ model_words words t (read_text t))
