@@ -1,17 +1,17 @@
 -- Document 01's numbers and values for the answers that are enums: 0 where nothing is refused, else the number of the refusal.
-use Rattle.std.specs.Prelude.{ℕ, List, [], ◌∷◌}
-use Rattle.frames.specs.declared.bytes.Decoding.{Decoding}
-use Rattle.frames.specs.declared.bytes.Decoding.TheVariants.{Bytes, Stray, Long}
+use Rattle.std.specs.Prelude.{ℕ, List, [], ◌∷◌, Result, Ok, Err}
+use Rattle.frames.specs.declared.bytes.DecodeError.{DecodeError}
+use Rattle.frames.specs.declared.bytes.DecodeError.TheVariants.{Stray, Long}
 use Rattle.frames.specs.declared.summary.Answer.{Answer}
 use Rattle.frames.specs.declared.summary.Answer.TheVariants as line
 use Rattle.frames.specs.declared.text.Verdict.{Verdict}
 use Rattle.frames.specs.declared.text.Verdict.TheVariants as text
 
 -- of a line's digits
-abbrev pub decoding_number : Decoding → ℕ
-decoding_number (Bytes _) = 0
-decoding_number Stray = 1
-decoding_number Long = 2
+abbrev pub decoding_number : Result (List ℕ) DecodeError → ℕ
+decoding_number (Ok _) = 0
+decoding_number (Err Stray) = 1
+decoding_number (Err Long) = 2
 
 -- of a line
 abbrev pub answer_number : Answer → ℕ
