@@ -43,10 +43,6 @@ digit_own : (c : ℕ) → is_hex c ≡ true → digit_of c ≡ hex_value c
 unfolding digit_of is_hex
 digit_own c e = mod-eq_of_lt {n = hex_value c} {m = 16} (ltb-true (hex_value c) 16 e)
 
-not-not : (b : Bool) → not (not b) ≡ b
-not-not true = refl
-not-not false = refl
-
 -- what the code reads a byte as
 abbrev pub read_as : ℕ → Option ℕ
 read_as c = cond (is_hex c) (Some (hex_value c)) None
@@ -66,13 +62,22 @@ read_digit c = go (ltb (hex_value c) 16) refl
     go true e = sym (mod-eq_of_lt {n = hex_value c} {m = 16} (ltb-true (hex_value c) 16 e))
     go false e = let s : hex_value c ≡ 16 = omega (arith, ltb-false (hex_value c) 16 e, hex_value_le c) in rw s
 
--- the same of what the code's calls on it answer
-module _ (c : ℕ) {v : Option ℕ} (read : v ≡ read_as c) where
-  pub none_is : {b : Bool} → is_some v ≡ not b → b ≡ not (is_hex c)
-  none_is {b} e = sym (not-not b) ∙ ap not (sym e ∙ ap is_some read ∙ read_some c)
+-- with 16 for no digit
+pub read_value : (c : ℕ) {o : Option ℕ} {v : ℕ} → o ≡ read_as c → v ≡ unwrap_or o 16 → v ≡ hex_value c
+unfolding is_hex
+read_value c p q = rw (q, p) (go (ltb (hex_value c) 16) refl)
+  where
+    go : (b : Bool) → ltb (hex_value c) 16 ≡ b → unwrap_or {T = ℕ} (cond b (Some (hex_value c)) None) 16 ≡ hex_value c
+    go true e = refl
+    go false e = omega (arith, ltb-false (hex_value c) 16 e, hex_value_le c)
 
-  pub digit_is : {x : ℕ} → x ≡ unwrap_or v 0 → x ≡ digit_of c
-  digit_is e = e ∙ ap (λ (o : Option ℕ). unwrap_or o 0) read ∙ read_digit c
+stray_test : (c : ℕ) → eqb (hex_value c) 16 ≡ not (is_hex c)
+unfolding is_hex
+stray_test c = go (ltb (hex_value c) 16) refl
+  where
+    go : (b : Bool) → ltb (hex_value c) 16 ≡ b → eqb (hex_value c) 16 ≡ not b
+    go true e = ne_eqb (hex_value c) 16 (λ q. omega (arith, ltb-true (hex_value c) 16 e))
+    go false e = eq-eqb (hex_value c) 16 (omega (arith, ltb-false (hex_value c) 16 e, hex_value_le c))
 
 -- some byte is no digit
 pub any_stray : (l : List ℕ) → list_any (λ c. not (is_hex c)) l ≡ not (all is_hex l)
@@ -248,15 +253,16 @@ module _ (d : Decoder) (ds : List ℕ) where
   unfolding run
   pairs_none even = same_state refl even (sym (add-zero d.count))
 
-  pub pairs_on : (n i : ℕ) {s x y : Bool} {b : List ℕ} {high low : ℕ} → 2 * i + 1 < length ds → n + i < max_bytes
+  pub pairs_on : (n i : ℕ) {s : Bool} {b : List ℕ} {high low : ℕ} → 2 * i + 1 < length ds → n + i < max_bytes
       → run d (take (2 * i) ds) ≡ record { stray = s; half = None; count = n + i; bytes = b }
-      → x ≡ not (is_hex (get_or ds (2 * i) 0)) → y ≡ not (is_hex (get_or ds (2 * i + 1) 0)) → high ≡ digit_of (get_or ds (2 * i) 0) → low ≡ digit_of (get_or ds (2 * i + 1) 0)
-      → run d (take (2 * (i + 1)) ds) ≡ record { stray = (s || x) || y; half = None; count = n + (i + 1); bytes = set b (n + i) (high * 16 + low) }
-  pairs_on n i {s} {x} {y} {b} {high} {low} h r q p p' f f' =
+      → high ≡ hex_value (get_or ds (2 * i) 0) → low ≡ hex_value (get_or ds (2 * i + 1) 0)
+      → run d (take (2 * (i + 1)) ds) ≡ record { stray = (s || eqb high 16) || eqb low 16; half = None; count = n + (i + 1); bytes = set b (n + i) (high % 16 * 16 + low % 16) }
+  unfolding digit_of
+  pairs_on n i {s} {b} {high} {low} h r q x y =
       let e : n + i + 1 ≡ n + (i + 1) = omega arith in
       pair_more i h q
       ∙ pair_kept (record { stray = s; half = None; count = n + i; bytes = b }) (get_or ds (2 * i) 0) (get_or ds (2 * i + 1) 0) refl r
-      ∙ rw (p, p', f, f', e)
+      ∙ rw (x, y, stray_test (get_or ds (2 * i) 0), stray_test (get_or ds (2 * i + 1) 0), e)
 
   pub pairs_end : d.half ≡ None → (n i : ℕ) {s : Bool} {b : List ℕ} → i ≡ n
       → run (record { stray = d.stray; half = None; count = d.count; bytes = d.bytes }) (take (2 * i) ds) ≡ record { stray = s; half = None; count = d.count + i; bytes = b }
