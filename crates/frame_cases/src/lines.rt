@@ -2,7 +2,7 @@
 // a short one; "none" where the reader says that no line is left.
 use super::{number, say, text_of};
 use frames::line::LineState;
-use frames::reader::{after_from, digits_from, state_from};
+use frames::reader::Reader;
 use std::io;
 
 const SHORT: usize = 16;
@@ -10,28 +10,27 @@ const SHORT: usize = 16;
 // No text here has more lines.
 const MOST: usize = 66;
 
-fn digits(rt: &impl Print, text: &[u8], at: usize) -> io::Result<()> {
-    let d = digits_from(text, at);
-    number(rt, d.len() as u64)?;
-    if d.len() <= SHORT {
+fn digits(rt: &impl Print, digits: &[u8]) -> io::Result<()> {
+    number(rt, digits.len() as u64)?;
+    if digits.len() <= SHORT {
         say(rt, b" \"")?;
-        say(rt, d)?;
+        say(rt, digits)?;
         say(rt, b"\"")?;
     }
     Ok(())
 }
 
-// Prints the line at a place, and says whether there was one.
-fn line(rt: &impl Print, text: &[u8], at: usize) -> io::Result<bool> {
-    match state_from(text, at) {
+// Prints the reader's next line, and says whether there is one.
+fn line(rt: &impl Print, reader: Reader) -> io::Result<bool> {
+    match reader.state() {
         LineState::Ended => {
             say(rt, b" ended")?;
-            digits(rt, text, at)?;
+            digits(rt, reader.digits())?;
             Ok(true)
         }
         LineState::Unended => {
             say(rt, b" unended")?;
-            digits(rt, text, at)?;
+            digits(rt, reader.digits())?;
             Ok(true)
         }
         LineState::NoLine => {
@@ -46,19 +45,18 @@ fn lines(rt: &impl Print, name: &[u8], text: &[u8]) -> io::Result<()> {
     say(rt, b"reader, ")?;
     say(rt, name)?;
     say(rt, b":")?;
-    let mut at = 0;
-    let mut left = true;
-    for k in 0..MOST + 1 {
-        if left {
-            left = line(rt, text, at)?;
-            at = after_from(text, at);
+    let mut reader = Reader::new(text);
+    for _ in 0..=MOST {
+        if !line(rt, reader)? {
+            break;
         }
+        reader = reader.after();
     }
     say(rt, b"\n")
 }
 
 fn case(rt: &impl Print, c: &[u8]) -> io::Result<()> {
-    lines(rt, digits_from(c, 0), text_of(c))
+    lines(rt, Reader::new(c).digits(), text_of(c))
 }
 
 fn short_texts(rt: &impl Print) -> io::Result<()> {

@@ -6,7 +6,7 @@
 mod lines;
 mod pieces;
 
-use frames::reader::{after_from, digits_from};
+use frames::reader::Reader;
 use frames::summary::Summary;
 use frames::text::{TextError, read};
 use std::io;
@@ -29,12 +29,7 @@ fn large(n: u32) -> u64 {
 
 // A case is one literal: its name, a newline, and its text.
 fn text_of(c: &[u8]) -> &[u8] {
-    let at = after_from(c, 0);
-    let len = c.len();
-    if len < at {
-        return &c[0..0];
-    }
-    &c[at..len]
+    c.get(Reader::new(c).after().at..).unwrap_or(&[])
 }
 
 fn accepted(rt: &impl Print, s: Summary) -> io::Result<()> {
@@ -62,7 +57,7 @@ fn answer(rt: &impl Print, r: Result<Summary, TextError>) -> io::Result<()> {
 
 // One case: its name, and what reading the text answers, as a whole and in pieces.
 fn case(rt: &impl Print, c: &[u8]) -> io::Result<()> {
-    say(rt, digits_from(c, 0))?;
+    say(rt, Reader::new(c).digits())?;
     say(rt, b":")?;
     answer(rt, read(text_of(c)))?;
     say(rt, b"\n")?;

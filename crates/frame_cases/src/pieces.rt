@@ -1,10 +1,10 @@
 // Reads texts in pieces: the `Reader` finds the lines of a piece, and the `Decoder` goes on with a line that was cut.
-ghost use Rattle.std.specs.Prelude.{◌≤◌, ◌<◌};
+ghost use Rattle.std.specs.Prelude.{◌≤◌};
 
 use super::{answer, case, number, say};
 use frames::decoder::Decoder;
 use frames::line::LineState;
-use frames::reader::{after_from, digits_from, state_from};
+use frames::reader::Reader;
 use frames::refusal::Refusal;
 use frames::summary::Summary;
 use frames::text::TextError;
@@ -55,22 +55,22 @@ fn leave_line(p: Progress, digits: &[u8]) -> Progress {
     q
 }
 
-// The line of a piece that starts at a place.
-fn line(p: Progress, piece: &[u8], at: usize) -> Progress {
-    match state_from(piece, at) {
-        LineState::Ended => end_line(p, digits_from(piece, at)),
-        LineState::Unended => leave_line(p, digits_from(piece, at)),
+// The reader's next line.
+fn line(p: Progress, reader: Reader) -> Progress {
+    match reader.state() {
+        LineState::Ended => end_line(p, reader.digits()),
+        LineState::Unended => leave_line(p, reader.digits()),
         LineState::NoLine => p,
     }
 }
 
 fn read_piece(p: Progress, piece: &[u8]) -> Progress {
     let mut q = p;
-    let mut at = 0;
-    for k in 0..MOST {
+    let mut reader = Reader::new(piece);
+    for _ in 0..MOST {
         if q.refusal.is_none() {
-            q = line(q, piece, at);
-            at = after_from(piece, at);
+            q = line(q, reader);
+            reader = reader.after();
         }
     }
     q
@@ -90,20 +90,12 @@ fn read_byte(p: Progress, b: u8) -> Progress {
 
 fn read_bytes(text: &[u8]) -> Result<Summary, TextError> {
     let mut p = begin();
-    for i in 0..text.len() {
+    for byte in text {
         if p.refusal.is_none() {
-            p = read_byte(p, text[i]);
+            p = read_byte(p, *byte);
         }
     }
     close(p)
-}
-
-// Where the piece that starts at a place ends.
-fn piece_end(len: usize, at: usize, size: usize) -> usize
-    requires { (at < len) × (1 ≤ size) }
-    ensures { (at < result) × (result ≤ len) }
-{
-    if len - at <= size { len } else { at + size }
 }
 
 // What the text answers where its bytes end here: an empty text and an unended line are refused with 1.
@@ -131,11 +123,8 @@ fn read_pieces(text: &[u8], size: usize) -> Result<Summary, TextError>
     requires { 1 ≤ size }
 {
     let mut p = begin();
-    let mut at = 0;
-    while at < text.len() {
-        let end = piece_end(text.len(), at, size);
-        p = read_piece(p, &text[at..end]);
-        at = end;
+    for piece in text.chunks(size) {
+        p = read_piece(p, piece);
     }
     close(p)
 }

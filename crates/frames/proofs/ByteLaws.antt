@@ -1,13 +1,11 @@
 -- Laws of digits and bytes, and what decoding answers. Assumes nothing.
-use Rattle.std.proofs.Common.{◌≡◌, ℕ, zero, suc, ◌+◌, ◌-◌, ◌*◌, ◌/◌, ◌%◌, ◌<◌, ◌≤◌, Bool, true, false, cond, ◌&&◌, ltb, leb, ◌↔◌, List, [], ◌∷◌, ◌++◌, length, get_or, take, drop, replicate, sym, refl, ap, ◌∙◌, le_refl, not-suc-le-zero, add-one, arith, length-append, drop_of_length-le, drop-cons, take_at, ltb-false, ltb-true, le-ltb, le-leb, leb-false, leb-true}
+use Rattle.std.proofs.Common.{◌≡◌, ℕ, zero, suc, ◌+◌, ◌-◌, ◌*◌, ◌/◌, ◌%◌, ◌<◌, ◌≤◌, Bool, true, false, cond, ◌&&◌, ltb, leb, ◌↔◌, List, [], ◌∷◌, length, get_or, drop, Result, Ok, Err, refl, ap, ◌∙◌, le_refl, not-suc-le-zero, add-one, arith, drop_of_length-le, drop-cons, ltb-false, ltb-true, le-ltb, le-leb, leb-false, leb-true}
 use mathlib.Core.Bool.{false≢true}
 use borrow.Author.Tests.{lt-leb}
-use lib.ListN.{length-replicate}
 use Rattle.frames.specs.Bytes.{hex_value, is_hex, all, spelt, bytes_of, max_bytes}
-use Rattle.frames.specs.internal.Decoded.{decoding_of, held_by, decoded}
-use Rattle.frames.specs.declared.bytes.Decoding.{Decoding}
-use Rattle.frames.specs.declared.bytes.Decoding.TheVariants.{Bytes, Stray, Long}
-use Rattle.frames.specs.declared.bytes.Decoded.{Decoded}
+use Rattle.frames.specs.internal.Decoded.{decoded}
+use Rattle.frames.specs.declared.bytes.DecodeError.{DecodeError}
+use Rattle.frames.specs.declared.bytes.DecodeError.TheVariants.{Stray, Long}
 
 -- both sides of a conjunction that is true
 pub both : (a b : Bool) → (a && b) ≡ true → (a ≡ true) × (b ≡ true)
@@ -102,97 +100,61 @@ module _ (ds : List ℕ) (ok : spelt ds ≡ true) where
 -- ---- what decoding answers
 
 -- the answer, by the two tests
-abbrev answer_by : List ℕ → Bool → Bool → Decoding
-answer_by ds ok short = cond ok (cond short (Bytes (length (bytes_of ds))) Long) Stray
+abbrev answer_by : List ℕ → Bool → Bool → Result (List ℕ) DecodeError
+answer_by ds ok short = cond ok (cond short (Ok (bytes_of ds)) (Err Long)) (Err Stray)
 
 module _ (ds : List ℕ) where
-  pub decoding_stray : spelt ds ≡ false → decoding_of ds ≡ Stray
-  unfolding decoding_of
-  decoding_stray e = rw e
+  pub decoded_stray : spelt ds ≡ false → decoded ds ≡ Err Stray
+  unfolding decoded
+  decoded_stray e = rw e
 
-  pub decoding_long : spelt ds ≡ true → max_bytes < length (bytes_of ds) → decoding_of ds ≡ Long
-  unfolding decoding_of
-  decoding_long e l = rw (e, lt-leb (length (bytes_of ds)) max_bytes l)
+  pub decoded_long : spelt ds ≡ true → max_bytes < length (bytes_of ds) → decoded ds ≡ Err Long
+  unfolding decoded
+  decoded_long e l = rw (e, lt-leb (length (bytes_of ds)) max_bytes l)
 
-  pub decoding_bytes : spelt ds ≡ true → length (bytes_of ds) ≤ max_bytes → decoding_of ds ≡ Bytes (length (bytes_of ds))
-  unfolding decoding_of
-  decoding_bytes e l = rw (e, le-leb (length (bytes_of ds)) max_bytes l)
-
-  -- what is handed over with each of the three
-  pub decoded_stray : spelt ds ≡ false → record { answer = Stray; bytes = replicate max_bytes 0 } ≡ decoded ds
-  unfolding decoded held_by
-  decoded_stray e = rw (decoding_stray e)
-
-  pub decoded_long : spelt ds ≡ true → max_bytes < length ds / 2 → record { answer = Long; bytes = replicate max_bytes 0 } ≡ decoded ds
-  unfolding decoded held_by
-  decoded_long e l = rw (decoding_long e (omega (arith, length_bytes ds)))
-
-  pub decoded_bytes : {b : List ℕ} → spelt ds ≡ true → length ds / 2 ≤ max_bytes → b ≡ bytes_of ds ++ replicate (max_bytes - length (bytes_of ds)) 0 → record { answer = Bytes (length ds / 2); bytes = b } ≡ decoded ds
-  unfolding decoded held_by
-  decoded_bytes e l h = rw (decoding_bytes e (omega (arith, length_bytes ds)), h, length_bytes ds)
+  pub decoded_bytes : spelt ds ≡ true → length (bytes_of ds) ≤ max_bytes → decoded ds ≡ Ok (bytes_of ds)
+  unfolding decoded
+  decoded_bytes e l = rw (e, le-leb (length (bytes_of ds)) max_bytes l)
 
   -- Stray: some byte is no digit, or a digit is alone.
-  pub stray : (decoding_of ds ≡ Stray) ↔ (spelt ds ≡ false)
-  unfolding decoding_of
-  stray = (go (spelt ds) (leb (length (bytes_of ds)) max_bytes), decoding_stray)
+  pub stray : (decoded ds ≡ Err Stray) ↔ (spelt ds ≡ false)
+  unfolding decoded
+  stray = (go (spelt ds) (leb (length (bytes_of ds)) max_bytes), decoded_stray)
     where
-      go : (ok short : Bool) → answer_by ds ok short ≡ Stray → ok ≡ false
-      go true true e = absurd (let z : ◌≡◌ {A = ℕ} 0 1 = cc in omega arith)
-      go true false e = absurd (let z : ◌≡◌ {A = ℕ} 0 1 = cc in omega arith)
+      go : (ok short : Bool) → answer_by ds ok short ≡ Err Stray → ok ≡ false
+      go true true e = cc
+      go true false e = cc
       go false short e = refl
 
   -- Long: the digits spell more than 255 bytes.
-  pub long : (decoding_of ds ≡ Long) ↔ ((spelt ds ≡ true) × (max_bytes < length (bytes_of ds)))
-  unfolding decoding_of
-  long = (go (spelt ds) (leb (length (bytes_of ds)) max_bytes) refl refl, λ (e, l). decoding_long e l)
-    where
-      go : (ok short : Bool) → spelt ds ≡ ok → leb (length (bytes_of ds)) max_bytes ≡ short → answer_by ds ok short ≡ Long → (spelt ds ≡ true) × (max_bytes < length (bytes_of ds))
-      go true true p q e = absurd (let z : ◌≡◌ {A = ℕ} 0 1 = cc in omega arith)
-      go true false p q e = (p, leb-false (length (bytes_of ds)) max_bytes q)
-      go false short p q e = absurd (let z : ◌≡◌ {A = ℕ} 0 1 = cc in omega arith)
-
--- there is always room for 255 bytes
-pub decoded_room : (ds : List ℕ) → length (decoded ds).bytes ≡ max_bytes
-unfolding decoded decoding_of held_by
-decoded_room ds = go (spelt ds) (leb (length (bytes_of ds)) max_bytes) refl
-  where
-    go : (ok short : Bool) → leb (length (bytes_of ds)) max_bytes ≡ short → length (held_by (answer_by ds ok short) (bytes_of ds)) ≡ max_bytes
-    go true true q = let h = leb-true (length (bytes_of ds)) max_bytes q in simp (length-append, length-replicate) (omega arith)
-    go true false q = length-replicate {A = ℕ} max_bytes 0
-    go false short q = length-replicate {A = ℕ} max_bytes 0
-
--- Bytes n: the digits spell n bytes, which are handed over, with zeros after them.
-pub record Decodes (ds : List ℕ) (n : ℕ) : Type 0 where
-  pub spelt_whole : spelt ds ≡ true
-  pub count : length (bytes_of ds) ≡ n
-  pub short : n ≤ max_bytes
-  pub handed : take n (decoded ds).bytes ≡ bytes_of ds
-  pub small : (i : ℕ) → i < n → get_or (bytes_of ds) i 0 < 256
-
-pub decodes : (ds : List ℕ) (n : ℕ) → decoding_of ds ≡ Bytes n → Decodes ds n
-unfolding decoded held_by
-decodes ds n e =
-    let (ok, l) = tests in
-    let c : length (bytes_of ds) ≡ n = let q = decoding_bytes ds ok l in cc in
-    record {
-      spelt_whole = ok;
-      count = c;
-      short = omega arith;
-      handed = rw e (take_at (bytes_of ds) (replicate (max_bytes - n) 0) n c);
-      small = λ i h. byte_small ds ok i (omega arith);
-    }
-  where
-    go : (ok short : Bool) → spelt ds ≡ ok → leb (length (bytes_of ds)) max_bytes ≡ short → answer_by ds ok short ≡ Bytes n → (spelt ds ≡ true) × (length (bytes_of ds) ≤ max_bytes)
-    go true true p q x = (p, leb-true (length (bytes_of ds)) max_bytes q)
-    go true false p q x = absurd (let z : ◌≡◌ {A = ℕ} 0 1 = cc in omega arith)
-    go false short p q x = absurd (let z : ◌≡◌ {A = ℕ} 0 1 = cc in omega arith)
-
-    tests : (spelt ds ≡ true) × (length (bytes_of ds) ≤ max_bytes)
-    tests = unfold decoding_of in go (spelt ds) (leb (length (bytes_of ds)) max_bytes) refl refl e
-
--- ---- what a caller of `decode` has
-
-module _ (ds : List ℕ) (d : Decoded) (is : d ≡ decoded ds) where
-  pub decoded_answer : decoding_of ds ≡ d.answer
+  pub long : (decoded ds ≡ Err Long) ↔ ((spelt ds ≡ true) × (max_bytes < length (bytes_of ds)))
   unfolding decoded
-  decoded_answer = sym (ap (λ (x : Decoded). x.answer) is)
+  long = (go (spelt ds) (leb (length (bytes_of ds)) max_bytes) refl refl, λ (e, l). decoded_long e l)
+    where
+      go : (ok short : Bool) → spelt ds ≡ ok → leb (length (bytes_of ds)) max_bytes ≡ short → answer_by ds ok short ≡ Err Long → (spelt ds ≡ true) × (max_bytes < length (bytes_of ds))
+      go true true p q e = absurd (cc)
+      go true false p q e = (p, leb-false (length (bytes_of ds)) max_bytes q)
+      go false short p q e = absurd (cc)
+
+-- Bytes: they are those that the digits spell, at most 255.
+pub record Decodes (ds b : List ℕ) : Type 0 where
+  pub spelt_whole : spelt ds ≡ true
+  pub handed : b ≡ bytes_of ds
+  pub short : length b ≤ max_bytes
+  pub small : (i : ℕ) → i < length b → get_or b i 0 < 256
+
+pub decodes : (ds b : List ℕ) → decoded ds ≡ Ok b → Decodes ds b
+unfolding decoded
+decodes ds b e = go (spelt ds) (leb (length (bytes_of ds)) max_bytes) refl refl e
+  where
+    go : (ok short : Bool) → spelt ds ≡ ok → leb (length (bytes_of ds)) max_bytes ≡ short → answer_by ds ok short ≡ Ok b → Decodes ds b
+    go true true p q x =
+        let same : b ≡ bytes_of ds = cc in
+        record {
+          spelt_whole = p;
+          handed = same;
+          short = rw same (leb-true (length (bytes_of ds)) max_bytes q);
+          small = rw same (byte_small ds p);
+        }
+    go true false p q x = absurd (cc)
+    go false short p q x = absurd (cc)

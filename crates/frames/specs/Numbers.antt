@@ -1,7 +1,7 @@
 -- Document 01's numbers and values for the answers: 0 where nothing is refused, else the number of the refusal.
 use Rattle.std.specs.Prelude.{ℕ, Result, Ok, Err, List, [], ◌∷◌}
-use Rattle.frames.specs.declared.bytes.Decoding.{Decoding}
-use Rattle.frames.specs.declared.bytes.Decoding.TheVariants.{Bytes, Stray, Long}
+use Rattle.frames.specs.declared.bytes.DecodeError.{DecodeError}
+use Rattle.frames.specs.declared.bytes.DecodeError.TheVariants.{Stray, Long}
 use Rattle.frames.specs.declared.frame.Frame.{Frame}
 use Rattle.frames.specs.declared.refusal.Refusal.{Refusal}
 use Rattle.frames.specs.declared.refusal.Refusal.TheVariants.{Spelling, Size, Number, Kind, Range, Limits}
@@ -18,10 +18,10 @@ refusal_number Range = 5
 refusal_number Limits = 6
 
 -- of a line's digits
-abbrev pub decoding_number : Decoding → ℕ
-decoding_number (Bytes _) = 0
-decoding_number Stray = 1
-decoding_number Long = 2
+abbrev pub decoding_number : Result (List ℕ) DecodeError → ℕ
+decoding_number (Ok _) = 0
+decoding_number (Err Stray) = 1
+decoding_number (Err Long) = 2
 
 -- of a line
 abbrev pub answer_number : Result Frame Refusal → ℕ

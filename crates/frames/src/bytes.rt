@@ -1,39 +1,62 @@
 // The digits of a line: their values, and what decoding them answers.
-ghost use Rattle.std.specs.Prelude.{◌≡◌};
-ghost use Rattle.frames.specs.Bytes.{hex_value};
+ghost use Rattle.std.specs.Prelude.{◌≡◌, ◌≤◌, ℕ, List, take, if◌then◌else◌};
+ghost use Rattle.frames.specs.Bytes.{hex_value, is_hex, max_bytes};
+
+use std::marker::Model;
 
 // A frame has at most so many bytes.
 pub const MAX_BYTES: usize = 255;
 
-// What decoding answers: so many bytes; a byte that is no digit, or a digit alone; or too many bytes.
-#[derive(Clone, Copy)]
-pub enum Decoding {
-    Bytes(usize),
+// Why a line's digits give no frame's bytes: a byte that is no digit, or a digit alone; or too many bytes.
+#[derive(Clone, Copy, Debug, PartialEq, Eq)]
+pub enum DecodeError {
     Stray,
     Long,
 }
 
-// The answer, with the bytes; past them, and where there are none, zeros.
-#[derive(Clone, Copy)]
-pub struct Decoded {
-    pub answer: Decoding,
-    pub bytes: [u8; 255],
+// The bytes of one frame: contracts see them as a list.
+#[derive(Drop)]
+pub struct FrameBytes {
+    bytes: [u8; MAX_BYTES],
+    len: usize,
 }
 
-// The value of a byte that is no digit.
-pub const NO_DIGIT: u8 = 16;
+impl Model for FrameBytes {
+    ghost Value = { List ℕ };
 
-// The value of a digit 0-9 A-F, and 16 for any other byte. One comparison tells each range, so that the compiler can do without jumps.
-pub fn hex_value(c: u8) -> u8
-    ensures { result ≡ hex_value c }
+    ghost view = { λ f. take f.len f.bytes };
+
+    ghost invariant = { λ f. f.len ≤ max_bytes };
+}
+
+impl FrameBytes {
+    // The first `len` of the bytes.
+    pub fn first(bytes: [u8; MAX_BYTES], len: usize) -> FrameBytes
+        requires { len ≤ max_bytes }
+        ensures { result ≡ take len bytes }
+    {
+        FrameBytes { bytes, len }
+    }
+
+    pub fn as_slice(&self) -> &[u8]
+        ensures { result.now ≡ self.now }
+    {
+        &self.bytes[..self.len]
+    }
+}
+
+// The value of a digit 0-9 A-F. One comparison tells each range, so that the compiler can do without jumps.
+#[tactic(auto, unfolding(crate::specs::Bytes::hex_value, crate::specs::Bytes::is_hex))]
+pub fn hex_value(c: u8) -> Option<u8>
+    ensures { result ≡ (if is_hex c then Some (hex_value c) else None) }
 {
-    let digit = std::num::wrapping_sub_u8(c, 48);
+    let digit = c.wrapping_sub(b'0');
     if digit < 10 {
-        return digit;
+        return Some(digit);
     }
-    let letter = std::num::wrapping_sub_u8(c, 65);
+    let letter = c.wrapping_sub(b'A');
     if letter < 6 {
-        return letter + 10;
+        return Some(letter + 10);
     }
-    NO_DIGIT
+    None
 }

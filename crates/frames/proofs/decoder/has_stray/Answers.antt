@@ -1,16 +1,13 @@
--- `frames::decoder::has_stray` meets its contract: the loop keeps what the bytes passed and those that are left say together.
+-- `frames::decoder::has_stray` meets its contract: what `any` answers is that some byte is no digit.
 -- Assumes nothing.
-use Rattle.std.proofs.Common.{sym, refl, ◌∙◌}
-use Rattle.frames.proofs.DecoderLaws.{test_on, test_past}
+use Rattle.std.proofs.Common.{not, ◌∙◌, rules, tests}
+use Rattle.std.proofs.lemmas.Iterator.{YieldsList-from_slice}
+use Rattle.std.proofs.lemmas.Iterator.Search.{any_from_yields_List}
+use Rattle.frames.specs.Bytes.{is_hex}
+use Rattle.frames.proofs.DecoderLaws.{read_some, any_stray}
 use Rattle.frames.proofs.decoder.has_stray.Goals as goal
 
-pub loop-i-init : goal.loop-i-init
-loop-i-init c = refl
-
-pub loop-i-preserved : goal.loop-i-preserved
-loop-i-preserved c =
-    let at = c.loop-i in
-    at.invariant ∙ test_on at.stray c.args.digits.now at.i c.loop-i-test.true c.hex_value.ensures
-
 pub returns : goal.returns
-returns c = sym (c.loop-i.invariant ∙ test_past c.loop-i.stray _ c.loop-i.i c.loop-i-test.false)
+returns c =
+    let ds = c.args.digits.now in
+    any_from_yields_List (λ x. not (is_hex x)) _ _ _ c.any.ensures.ran (YieldsList-from_slice ds cc) (λ x b q k. search (rules, tests, read_some)) ∙ any_stray ds
