@@ -1,27 +1,44 @@
--- `frames::line::past_blocks` meets its contract: the loop keeps that the line ends where the rest of it does.
+-- `frames::line::past_blocks` meets its contract: a block without a 0A is a part of the line, and the line ends in any other.
 -- Assumes nothing.
-use Rattle.std.proofs.Common.{◌≡◌, ◌+◌, ◌≤◌, length, drop, sym, refl, ◌∙◌, arith, rules}
+use Rattle.std.proofs.Common.{refl, sym, ap, ◌∙◌, arith, rules}
 use Rattle.frames.specs.Line.{line_length}
-use Rattle.frames.specs.internal.Cut.{block}
-use Rattle.frames.proofs.LineLaws.{block_passed, blocks_end}
+use Rattle.frames.proofs.LineLaws.{line_length_le, length_past, rest_is, block_within, block_left, block_ends, block_passed}
 use Rattle.frames.proofs.line.past_blocks.Goals as goal
 
--- a block more is within the text, and the line goes on past it
-passed : (c : goal.In-loop-i) → let t = c.args.text.now in let i = c.loop-i.i in (i + block ≤ length t) × (i + line_length (drop i t) ≡ i + block + line_length (drop (i + block) t))
-passed c = block_passed c.args.text.now c.loop-i.i block c.has_block.ensures c.loop-i-test.true (omega arith)
+pub returns-in_default : goal.returns-in_default
+returns-in_default c = omega (arith, length_past c.args.text.now c.args.at (grind arith))
 
-pub loop-i-init : goal.loop-i-init
-loop-i-init c = (search rules, omega arith, refl)
+pub loop-next-init : goal.loop-next-init
+loop-next-init c =
+    let rest = c.in-Some.ensures.lookup.0.2 ∙ rest_is c.args.text.now c.args.at in
+    (omega arith, omega arith, refl, cc, cc)
 
-pub overflow_add-i : goal.overflow_add-i
-overflow_add-i c = let p = passed c in search rules
+pub returns-then-has_newline : goal.returns-then-has_newline
+returns-then-has_newline c =
+    let v = c.loop-next.invariant in
+    let s = c.in-Some-next.ensures.steps.1 in
+    omega (arith, block_ends c.args.text.now c.loop-next.end _ _ (sym v.3 ∙ s.0) (s.1 ∙ v.4) c.if-has_newline.ensures)
 
-pub loop-i-smaller : goal.loop-i-smaller
-loop-i-smaller c = let p = passed c in omega arith
+pub overflow_add-end : goal.overflow_add-end
+overflow_add-end c =
+    let v = c.loop-next.invariant in
+    let s = c.in-Some-next.ensures.steps.1 in
+    let within = block_within c.args.text.now c.loop-next.end _ _ (sym v.3 ∙ s.0) (s.1 ∙ v.4) in
+    search rules
 
-pub loop-i-preserved : goal.loop-i-preserved
-loop-i-preserved c = let p = passed c in let v = c.loop-i.invariant in (omega arith, omega arith, sym p.1 ∙ v.2)
+pub loop-next-preserved : goal.loop-next-preserved
+loop-next-preserved c =
+    let t = c.args.text.now in
+    let i = c.loop-next.end in
+    let v = c.loop-next.invariant in
+    let s = c.in-Some-next.ensures.steps.1 in
+    let cut = sym v.3 ∙ s.0 in
+    let size = s.1 ∙ v.4 in
+    (omega arith, omega arith, sym (block_passed t i _ _ cut size c.if-has_newline.ensures) ∙ v.2, block_left t i _ _ cut size, c.in-Some-next.ensures.steps.0 ∙ v.4)
 
 pub returns : goal.returns
 returns c =
-    blocks_end c.args.text.now c.args.at c.loop-i.i c.loop-i.invariant.0 c.loop-i.invariant.1 c.loop-i.invariant.2 c.has_block.ensures c.loop-i-test.false
+    let v = c.loop-next.invariant in
+    let short = c.in-None.ensures.steps.1.0 in
+    let length_is = ap line_length v.3 in
+    omega (arith, line_length_le c.loop-next.next-iterator.rest.now)
