@@ -7,12 +7,13 @@ use native.Mathlib.Omega.{arith}
 use borrow.Author.Tests.{lt-ltb, le-leb, leb-true, eq-eqb, eqb-true}
 use lib.Dec.{ltb, leb, eqb}
 use lib.ListN.{length}
+use Rattle.std.specs.Prelude.{Ok}
 use Rattle.nodes.specs.Fun.{Assignment, Fun, digit}
 use Rattle.nodes.specs.Table.{Table, table, last_level, max_length, level_of, low_of, high_of, choice, den, WellFormed}
 use Rattle.nodes.specs.internal.Start.{Fits}
 use Rattle.nodes.proofs.Tables.{den_0, den_1, den_node}
 use Rattle.nodes.proofs.Working.{and_both}
-use Rattle.nodes.specs.Lookup.{looked_up, Slices, table_fits, number_of, values_of, ending, walk_from, small, look_up}
+use Rattle.nodes.specs.Lookup.{looked_up, Slices, table_fits, number_of, values_of, walk_from, small, look_up}
 
 module _ (s : Slices) (used : ℕ) (formed : WellFormed (table s.level s.low s.high used)) (a : Assignment) where
   abbrev t : Table
@@ -38,11 +39,11 @@ module _ (s : Slices) (used : ℕ) (formed : WellFormed (table s.level s.low s.h
       go true = refl
       go false = refl
 
-  walks : (n from i : ℕ) → i < used → (2 ≤ i → from ≤ level_of t i) → from ≤ last_level + 1 → last_level + 2 ≤ n + from → walk_from n s a from i ≡ ending (den t i a)
+  walks : (n from i : ℕ) → i < used → (2 ≤ i → from ≤ level_of t i) → from ≤ last_level + 1 → last_level + 2 ≤ n + from → walk_from n s a from i ≡ Ok (den t i a)
   unfolding walk_from child
   walks zero from i h above most enough = absurd (omega arith)
-  walks (suc n) from zero h above most enough = ap ending (sym (den_0 t a))
-  walks (suc n) from (suc zero) h above most enough = ap ending (sym (den_1 t a))
+  walks (suc n) from zero h above most enough = ap (λ (b : Bool). Ok b) (sym (den_0 t a))
+  walks (suc n) from (suc zero) h above most enough = ap (λ (b : Bool). Ok b) (sym (den_1 t a))
   walks (suc n) from (suc (suc k)) h above most enough =
       let i = suc (suc k) in
       let order = formed.nodes i (omega arith) h in
@@ -54,7 +55,7 @@ module _ (s : Slices) (used : ℕ) (formed : WellFormed (table s.level s.low s.h
       (by_child (λ c. c < used) i (omega (arith, order.high_before)) (omega (arith, order.low_before)))
       (λ two. by_child (λ c. suc (level_of t i) ≤ level_of t c) i order.high_deeper order.low_deeper)
       (omega (arith, order.in_range)) (omega (arith, above (omega arith)))
-      ∙ ap ending (sym (den_child i (omega arith) h)))
+      ∙ ap (λ (b : Bool). Ok b) (sym (den_child i (omega arith) h)))
 
 -- the slices of a table in order fit
 pub formed_fits : (s : Slices) (used : ℕ) → WellFormed (table s.level s.low s.high used) → table_fits s ≡ true
@@ -68,7 +69,7 @@ formed_fits s used formed =
 
 -- In a table in order no look-up from an entry in use is refused, and it gives the value of what the entry stands for.
 pub looks_up : (s : Slices) (used : ℕ) → WellFormed (table s.level s.low s.high used) → (root α x x' y y' : ℕ) → root < used
-    → small α x x' y y' ≡ true → look_up s root α x x' y y' ≡ ending (den (table s.level s.low s.high used) root (looked_up α x x' y y'))
+    → small α x x' y y' ≡ true → look_up s root α x x' y y' ≡ Ok (den (table s.level s.low s.high used) root (looked_up α x x' y y'))
 unfolding look_up
 looks_up s used formed root α x x' y y' h ok =
     rw (formed_fits s used formed, ok) (walks s used formed (looked_up α x x' y y') (last_level + 2) 0 root h (λ _. zero-le) zero-le (omega arith))

@@ -1,7 +1,7 @@
 -- A look-up in a table: a root, an action and four state codes. Assumes nothing.
-use Rattle.std.specs.Prelude.{Bool, true, false, cond, ◌&&◌, List, [], ◌∷◌, ℕ, zero, suc, ◌+◌, ◌-◌, ◌/◌, ◌%◌, ◌^◌, ltb, leb, eqb, length, get_or}
-use Rattle.nodes.specs.declared.lookup.Looked.{Looked}
-use Rattle.nodes.specs.declared.lookup.Looked.TheVariants.{Value, Turned}
+use Rattle.std.specs.Prelude.{Bool, true, false, cond, ◌&&◌, List, [], ◌∷◌, ℕ, zero, suc, ◌+◌, ◌-◌, ◌/◌, ◌%◌, ◌^◌, ltb, leb, eqb, length, get_or, Result, Ok, Err}
+use Rattle.nodes.specs.declared.lookup.LookUpError.{LookUpError}
+use Rattle.nodes.specs.declared.lookup.LookUpError.TheVariants.{Table, Outside}
 use Rattle.nodes.specs.Fun.{Assignment, digit}
 use Rattle.nodes.specs.Formula.{bit}
 use Rattle.nodes.specs.Table.{last_level, max_bits, max_length}
@@ -44,32 +44,33 @@ small α x x' y y' =
 
 -- ---- the answer
 
--- document 01's number of the answer, 0 where there is none, and its values
-abbrev pub number_of : Looked → ℕ
-number_of (Value v) = 0
-number_of (Turned number) = number
+-- document 01's number of a refusal
+abbrev pub error_number : LookUpError → ℕ
+error_number Table = 7
+error_number Outside = 10
 
-abbrev pub values_of : Looked → List ℕ
-values_of (Value v) = v ∷ []
-values_of (Turned number) = []
+-- its number of the answer, 0 where there is none, and its values
+abbrev pub number_of : Result Bool LookUpError → ℕ
+number_of (Ok b) = 0
+number_of (Err e) = error_number e
 
--- the value at the end of a walk
-abbrev pub ending : Bool → Looked
-ending b = Value (digit b)
+abbrev pub values_of : Result Bool LookUpError → List ℕ
+values_of (Ok b) = digit b ∷ []
+values_of (Err e) = []
 
 -- The walk from entry i by the bits of a, of fewer than n steps: it ends at entry 0 or 1. A node is in the slices, and its level is `from` or
 -- above and at most the last one; the level of the next node is above it.
-unfoldable pub walk_from : ℕ → Slices → Assignment → ℕ → ℕ → Looked
-walk_from zero s a from i = Turned 10
-walk_from (suc n) s a from zero = ending false
-walk_from (suc n) s a from (suc zero) = ending true
+unfoldable pub walk_from : ℕ → Slices → Assignment → ℕ → ℕ → Result Bool LookUpError
+walk_from zero s a from i = Err Outside
+walk_from (suc n) s a from zero = Ok false
+walk_from (suc n) s a from (suc zero) = Ok true
 walk_from (suc n) s a from (suc (suc k)) =
     let i = suc (suc k) in
     let v = get_or s.level i 0 in
     cond (ltb i (length s.level) && (leb from v && leb v last_level))
-    (walk_from n s a (suc v) (cond (a v) (get_or s.high i 0) (get_or s.low i 0))) (Turned 10)
+    (walk_from n s a (suc v) (cond (a v) (get_or s.high i 0) (get_or s.low i 0))) (Err Outside)
 
 -- The answer of a look-up: 7, then 10, else the value. Levels rise, so a walk meets at most a node of each level and an end.
-unfoldable pub look_up : Slices → ℕ → ℕ → ℕ → ℕ → ℕ → ℕ → Looked
+unfoldable pub look_up : Slices → ℕ → ℕ → ℕ → ℕ → ℕ → ℕ → Result Bool LookUpError
 look_up s root α x x' y y' =
-    cond (table_fits s) (cond (small α x x' y y') (walk_from (last_level + 2) s (looked_up α x x' y y') 0 root) (Turned 10)) (Turned 7)
+    cond (table_fits s) (cond (small α x x' y y') (walk_from (last_level + 2) s (looked_up α x x' y y') 0 root) (Err Outside)) (Err Table)

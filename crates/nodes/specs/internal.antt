@@ -12,3 +12,4 @@ pub mod Lent
 pub mod Single
 pub mod Zero
 pub mod Several
+pub mod Spaced

@@ -2,117 +2,116 @@
 ghost use Rattle.std.specs.Prelude.{◌≡◌, cond, ◌≤◌, ◌<◌, min, max, length, get_or};
 ghost use Rattle.nodes.specs.Fun.{both, either, negated};
 ghost use Rattle.nodes.specs.internal.Packed.{packed_table, levels, lows};
-ghost use Rattle.nodes.specs.internal.Operate.{operation, turns_of, last_operation, Operands, SettlesBy, Settles, cofactor_of, Splits, Finishing, Helping, Operating};
-ghost use Rattle.nodes.specs.Table.{constant_level, den};
-ghost use Rattle.nodes.specs.internal.Index.{Indexing};
+ghost use Rattle.nodes.specs.internal.Operate.{operation, number_of, turns_of, key_of, IsOperation, Operands, SettlesBy, Settles, cofactor_of, Splits, Meant};
+ghost use Rattle.nodes.specs.Table.{constant_level, last_level, den};
 ghost use Rattle.nodes.specs.internal.Make.{Makeable, node_fun};
-ghost use Rattle.nodes.specs.internal.Lent.{table_of, table_in};
+ghost use Rattle.nodes.specs.internal.Lent.{table_of, entering, leaving};
+ghost use Rattle.nodes.specs.internal.Work.{Operating};
 
-use super::computed::{recall, remember, slot_for};
+use super::computed::{Key, recall, remember, slot_for};
 use super::limits::MAX_LENGTH;
-use super::unique::{Found, Made, make};
+use super::manager::{Full, Manager};
+use super::unique::Node;
 
+// An operation on entries. ¬ and fixing a level to a bit look at the first operand alone.
 #[derive(Clone, Copy)]
-pub enum Settled {
-    Is(u32),
-    Open,
+pub enum Operation {
+    And,
+    Or,
+    Not,
+    Fix(u8, bool),
 }
 
-fn settle_and(f: u32, g: u32) -> Settled
+impl Operation {
+    // Its number in the memory of results.
+    fn number(self) -> u32
+        requires { IsOperation self }
+        ensures { result ≡ number_of self }
+    {
+        match self {
+            Operation::And => 0,
+            Operation::Or => 1,
+            Operation::Not => 2,
+            Operation::Fix(v, b) => 3 + 2 * (v as u32) + (b as u32),
+        }
+    }
+}
+
+// Kept: settle_and and settle_or differ in each constant that they test, and one function of both would take the constants as parameters.
+fn settle_and(f: u32, g: u32) -> Option<u32>
     ensures { SettlesBy both f g result }
 {
     if f == 0 {
-        return Settled::Is(0);
+        return Some(0);
     }
     if g == 0 {
-        return Settled::Is(0);
+        return Some(0);
     }
     if f == 1 {
-        return Settled::Is(g);
+        return Some(g);
     }
     if g == 1 {
-        return Settled::Is(f);
+        return Some(f);
     }
     if f == g {
-        return Settled::Is(f);
+        return Some(f);
     }
-    Settled::Open
+    None
 }
 
-fn settle_or(f: u32, g: u32) -> Settled
+fn settle_or(f: u32, g: u32) -> Option<u32>
     ensures { SettlesBy either f g result }
 {
     if f == 1 {
-        return Settled::Is(1);
+        return Some(1);
     }
     if g == 1 {
-        return Settled::Is(1);
+        return Some(1);
     }
     if f == 0 {
-        return Settled::Is(g);
+        return Some(g);
     }
     if g == 0 {
-        return Settled::Is(f);
+        return Some(f);
     }
     if f == g {
-        return Settled::Is(f);
+        return Some(f);
     }
-    Settled::Open
+    None
 }
 
-fn settle_not(f: u32, g: u32) -> Settled
+fn settle_not(f: u32, g: u32) -> Option<u32>
     ensures { SettlesBy (λ x y. negated x) f g result }
 {
     if f == 0 {
-        return Settled::Is(1);
+        return Some(1);
     }
     if f == 1 {
-        return Settled::Is(0);
+        return Some(0);
     }
-    Settled::Open
+    None
 }
 
-fn settle_fix(packed: &[u32], high: &[u32], used: u32, op: u32, f: u32, g: u32) -> Settled
-    requires operands { Operands (packed_table packed.now high.now used) op f g }
-    requires is_fixing { 3 ≤ op }
-    ensures { Settles (packed_table packed.now high.now used) op f g result }
+fn settle_fix(packed: &[u32], high: &[u32], used: u32, v: u8, b: bool, f: u32, g: u32) -> Option<u32>
+    requires operands { Operands (packed_table packed.now high.now used) (Operation.Fix v b) f g }
+    ensures { Settles (packed_table packed.now high.now used) (Operation.Fix v b) f g result }
 {
     if f < 2 {
-        return Settled::Is(f);
+        return Some(f);
     }
     let at = f as usize;
-    let k = op - 3;
-    let v = k / 2;
     let word = packed[at];
     let l = word / MAX_LENGTH;
-    if l < v {
-        return Settled::Open;
+    if l < v as u32 {
+        return None;
     }
-    if v < l {
-        return Settled::Is(f);
+    if (v as u32) < l {
+        return Some(f);
     }
-    let b = k % 2;
-    if b == 1 {
-        return Settled::Is(high[at]);
+    if b {
+        return Some(high[at]);
     }
-    Settled::Is(word % MAX_LENGTH)
-}
-
-// The answer where it is an entry at hand.
-fn settle(packed: &[u32], high: &[u32], used: u32, op: u32, f: u32, g: u32) -> Settled
-    requires { Operands (packed_table packed.now high.now used) op f g }
-    ensures { Settles (packed_table packed.now high.now used) op f g result }
-{
-    if op == 0 {
-        return settle_and(f, g);
-    }
-    if op == 1 {
-        return settle_or(f, g);
-    }
-    if op == 2 {
-        return settle_not(f, g);
-    }
-    settle_fix(packed, high, used, op, f, g)
+    Some(word % MAX_LENGTH)
 }
 
 pub(crate) fn smaller(a: u8, b: u8) -> u8
@@ -162,8 +161,9 @@ pub(crate) fn high_cofactor(packed: &[u32], high: &[u32], f: u32, v: u8) -> u32
     }
 }
 
+// Two entries with the smaller one of their levels fixed to each bit.
 #[derive(Clone, Copy)]
-pub struct Split {
+pub(crate) struct Split {
     pub v: u8,
     pub f0: u32,
     pub f1: u32,
@@ -171,87 +171,80 @@ pub struct Split {
     pub g1: u32,
 }
 
-// A node and an entry, with the smaller one of their levels fixed to each bit.
-fn split_at_top(packed: &[u32], high: &[u32], used: u32, op: u32, f: u32, g: u32) -> Split
-    requires operands { Operands (packed_table packed.now high.now used) op f g }
-    requires is_node { 2 ≤ f }
-    ensures { Splits (packed_table packed.now high.now used) f g result }
+// The key of an operation's result: ∧ and ∨ have their operands by their numbers, the smaller one first.
+fn key_of(op: u32, f: u32, g: u32) -> Key
+    ensures { result ≡ key_of op f g }
 {
-    let v = smaller(level_of(packed, f), level_of(packed, g));
-    Split {
-        v,
-        f0: low_cofactor(packed, f, v),
-        f1: high_cofactor(packed, high, f, v),
-        g0: low_cofactor(packed, g, v),
-        g1: high_cofactor(packed, high, g, v),
+    let turned = op < 2 && g < f;
+    Key {
+        number: op,
+        left: pick(turned, g, f),
+        right: pick(turned, f, g),
     }
 }
 
-// Makes the node of v, a and b, and remembers it in slot s as the result of an operation.
-fn finish(
-    packed: &mut [u32],
-    high: &mut [u32],
-    work: &mut [u32],
-    used: u32,
-    v: u8,
-    a: u32,
-    b: u32,
-    s: usize,
-    op: u32,
-    f: u32,
-    g: u32,
-) -> Made
-    requires makeable { Makeable (table_of packed high used) v a b }
-    requires indexing { Indexing (table_of packed high used) work.old }
-    requires is_operation { op ≤ last_operation }
-    ensures { Finishing (table_in packed high used) packed.new high.new work.old work.new (node_fun (table_in packed high used) v a b) op f g result }
-{
-    let Made::At(i, n) = make(packed, high, work, used, v, a, b) else {
-        return Made::Full;
-    };
-    remember(work, s, op, f, g, i);
-    Made::At(i, n)
-}
-
-// Whether the memory has the operands of an operation the other way round: those of ∧ and ∨ by their numbers.
-fn turns(op: u32, f: u32, g: u32) -> bool
-    ensures { result ≡ turns_of op f g }
-{
-    op < 2 && g < f
-}
-
-// The entry of the result of an operation on what f and g stand for.
-pub fn operate(
-    packed: &mut [u32],
-    high: &mut [u32],
-    work: &mut [u32],
-    used: u32,
-    op: u32,
-    f: u32,
-    g: u32,
-) -> Made
-    requires operands { Operands (table_of packed high used) op f g }
-    requires helping { Helping (table_of packed high used) work.old }
-    ensures { Operating (table_in packed high used) packed.new high.new work.new (operation op (den (table_in packed high used) f) (den (table_in packed high used) g)) result }
-{
-    if let Settled::Is(k) = settle(packed, high, used, op, f, g) {
-        return Made::At(k, used);
+impl<'packed, 'high, 'work> Manager<'packed, 'high, 'work> {
+    // The answer where it is an entry at hand.
+    fn settle(&self, op: Operation, f: u32, g: u32) -> Option<u32>
+        requires { Operands (table_of self.now) op f g }
+        ensures { Settles (table_of self.now) op f g result }
+    {
+        match op {
+            Operation::And => settle_and(f, g),
+            Operation::Or => settle_or(f, g),
+            Operation::Not => settle_not(f, g),
+            Operation::Fix(v, b) => {
+                settle_fix(self.packed, self.high, self.used, v, b, f, g)
+            }
+        }
     }
-    let turned = turns(op, f, g);
-    let x = pick(turned, g, f);
-    let y = pick(turned, f, g);
-    let s = slot_for(work, op, x, y);
-    if let Found::At(k) = recall(work, s, op, x, y) {
-        return Made::At(k, used);
+
+    // A node and an entry, with the smaller one of their levels fixed to each bit.
+    fn split_at_top(&self, op: Operation, f: u32, g: u32) -> Split
+        requires operands { Operands (table_of self.now) op f g }
+        requires is_node { 2 ≤ f }
+        ensures { Splits (table_of self.now) f g result }
+    {
+        let v = smaller(level_of(self.packed, f), level_of(self.packed, g));
+        Split {
+            v,
+            f0: low_cofactor(self.packed, f, v),
+            f1: high_cofactor(self.packed, self.high, f, v),
+            g0: low_cofactor(self.packed, g, v),
+            g1: high_cofactor(self.packed, self.high, g, v),
+        }
     }
-    let c = split_at_top(packed, high, used, op, f, g);
-    let Made::At(a, n) = operate(packed, high, work, used, op, c.f0, c.g0) else {
-        return Made::Full;
-    };
-    let Made::At(b, m) = operate(packed, high, work, n, op, c.f1, c.g1) else {
-        return Made::Full;
-    };
-    finish(packed, high, work, m, c.v, a, b, s, op, x, y)
+
+    // Makes a node, and remembers it in slot s as a key's result.
+    fn finish(&mut self, node: Node, s: usize, key: Key) -> Result<u32, Full>
+        requires makeable { Makeable (table_of self.old) node.level node.low node.high }
+        requires meant { Meant (table_of self.old) key (node_fun (table_of self.old) node.level node.low node.high) }
+        ensures { Operating (entering self.old) (leaving self.new result) (node_fun (table_of self.old) node.level node.low node.high) result }
+    {
+        let i = self.make(node)?;
+        remember(self.work, s, key, i);
+        Ok(i)
+    }
+
+    // The entry of the result of an operation on what f and g stand for.
+    pub(crate) fn operate(&mut self, op: Operation, f: u32, g: u32) -> Result<u32, Full>
+        requires { Operands (table_of self.old) op f g }
+        ensures { Operating (entering self.old) (leaving self.new result) (operation op (den (table_of self.old) f) (den (table_of self.old) g)) result }
+    {
+        if let Some(k) = self.settle(op, f, g) {
+            return Ok(k);
+        }
+        let key = key_of(op.number(), f, g);
+        let s = slot_for(self.work, key);
+        if let Some(k) = recall(self.work, s, key) {
+            return Ok(k);
+        }
+        let c = self.split_at_top(op, f, g);
+        let low = self.operate(op, c.f0, c.g0)?;
+        let high = self.operate(op, c.f1, c.g1)?;
+        let level = c.v;
+        self.finish(Node { level, low, high }, s, key)
+    }
 }
 
 // x where b is true, and else y.

@@ -1,156 +1,92 @@
-// Calls one after the other on one table: each takes the room that the one before it left.
+// Calls one after the other on one table. Each works a function out, and answers its entry.
 ghost use Rattle.std.specs.Prelude.{◌≡◌, ◌≤◌};
 ghost use Rattle.nodes.specs.internal.Packed.{levels};
-ghost use Rattle.nodes.specs.internal.Operate.{last_operation};
+ghost use Rattle.nodes.specs.internal.Operate.{IsOperation};
 ghost use Rattle.nodes.specs.Table.{last_level};
 ghost use Rattle.nodes.specs.Formula.{◌∧'◌, ◌∨'◌, ¬'◌, fix, some};
-ghost use Rattle.nodes.specs.internal.Lent.{holding, entering, leaving};
-ghost use Rattle.nodes.specs.internal.Work.{fixing_of, is_deeper, Ready, Applies, Joins, Maps, Chooses};
+ghost use Rattle.nodes.specs.internal.Lent.{entering, leaving, entry_of};
+ghost use Rattle.nodes.specs.internal.Work.{is_deeper, Applies, Joins, Maps, Chooses};
 
-use super::apply::operate;
+use super::apply::Operation;
 use super::limits::MAX_LENGTH;
-use super::quantify::{any_of, quantify};
-use super::room::{Room, can_apply, room_after, with_root};
-use super::unique::make;
+use super::manager::{Full, Manager};
+use super::unique::Node;
 
-// The operation of a number. Where it cannot be made, nothing is done, and the root is f.
-fn apply(
-    op: u32,
-    f: u32,
-    g: u32,
-    room: Room,
-    packed: &mut [u32],
-    high: &mut [u32],
-    work: &mut [u32],
-) -> Room
-    requires ready { Ready (holding packed high work room) }
-    requires is_operation { op ≤ last_operation }
-    ensures { Applies (entering packed high work room) (leaving packed high work result) op f g result.root }
-{
-    if !can_apply(room, f, g) {
-        return with_root(room, f);
+impl<'packed, 'high, 'work> Manager<'packed, 'high, 'work> {
+    // An operation. Where it cannot be made, nothing is done, and the answer is f.
+    fn apply(&mut self, op: Operation, f: u32, g: u32) -> Result<u32, Full>
+        requires { IsOperation op }
+        ensures { Applies (entering self.old) (leaving self.new result) op f g (entry_of result) }
+    {
+        if !self.are_used(f, g) {
+            return Ok(f);
+        }
+        self.operate(op, f, g)
     }
-    let m = operate(packed, high, work, room.used, op, f, g);
-    room_after(m, packed.len())
-}
 
-// The entry of the conjunction of what f and g stand for.
-pub fn and(
-    f: u32,
-    g: u32,
-    room: Room,
-    packed: &mut [u32],
-    high: &mut [u32],
-    work: &mut [u32],
-) -> Room
-    requires { Ready (holding packed high work room) }
-    ensures { Joins (entering packed high work room) (leaving packed high work result) ◌∧'◌ f g result.root }
-{
-    apply(0, f, g, room, packed, high, work)
-}
-
-// The entry of the disjunction.
-pub fn or(
-    f: u32,
-    g: u32,
-    room: Room,
-    packed: &mut [u32],
-    high: &mut [u32],
-    work: &mut [u32],
-) -> Room
-    requires { Ready (holding packed high work room) }
-    ensures { Joins (entering packed high work room) (leaving packed high work result) ◌∨'◌ f g result.root }
-{
-    apply(1, f, g, room, packed, high, work)
-}
-
-// The entry of the negation.
-pub fn not(f: u32, room: Room, packed: &mut [u32], high: &mut [u32], work: &mut [u32]) -> Room
-    requires { Ready (holding packed high work room) }
-    ensures { Maps (entering packed high work room) (leaving packed high work result) ¬'◌ f result.root }
-{
-    apply(2, f, 0, room, packed, high, work)
-}
-
-// The operation that fixes level v to b.
-fn fixing(v: u8, b: bool) -> u32
-    ensures { result ≡ fixing_of v b }
-{
-    let w = v as u32;
-    if b { 4 + 2 * w } else { 3 + 2 * w }
-}
-
-// The entry of f with level v fixed to b.
-pub fn fix(
-    f: u32,
-    v: u8,
-    b: bool,
-    room: Room,
-    packed: &mut [u32],
-    high: &mut [u32],
-    work: &mut [u32],
-) -> Room
-    requires ready { Ready (holding packed high work room) }
-    requires levels_fit { v ≤ last_level }
-    ensures { Maps (entering packed high work room) (leaving packed high work result) (fix v b) f result.root }
-{
-    apply(fixing(v, b), f, 0, room, packed, high, work)
-}
-
-// The entry of ∃v f: f with v = 0, or f with v = 1.
-pub fn exists(
-    f: u32,
-    v: u8,
-    room: Room,
-    packed: &mut [u32],
-    high: &mut [u32],
-    work: &mut [u32],
-) -> Room
-    requires ready { Ready (holding packed high work room) }
-    requires levels_fit { v ≤ last_level }
-    ensures { Maps (entering packed high work room) (leaving packed high work result) (some v) f result.root }
-{
-    if !can_apply(room, f, f) {
-        return with_root(room, f);
+    // The entry of the conjunction of what f and g stand for.
+    pub fn and(&mut self, f: u32, g: u32) -> Result<u32, Full>
+        ensures { Joins (entering self.old) (leaving self.new result) ◌∧'◌ f g (entry_of result) }
+    {
+        self.apply(Operation::And, f, g)
     }
-    let r = quantify(packed, high, work, room.used, v, f);
-    room_after(any_of(r), packed.len())
-}
 
-// Whether f is an entry whose level is above v.
-fn is_deeper(v: u8, f: u32, packed: &[u32]) -> bool
-    ensures { result ≡ is_deeper v f (levels packed.now) }
-{
-    let at = f as usize;
-    if at < packed.len() {
-        return (v as u32) < packed[at] / MAX_LENGTH;
+    // The entry of the disjunction.
+    pub fn or(&mut self, f: u32, g: u32) -> Result<u32, Full>
+        ensures { Joins (entering self.old) (leaving self.new result) ◌∨'◌ f g (entry_of result) }
+    {
+        self.apply(Operation::Or, f, g)
     }
-    false
-}
 
-// The node of level v over lo and hi, which stand for functions of higher levels.
-pub fn node(
-    v: u8,
-    lo: u32,
-    hi: u32,
-    room: Room,
-    packed: &mut [u32],
-    high: &mut [u32],
-    work: &mut [u32],
-) -> Room
-    requires ready { Ready (holding packed high work room) }
-    requires levels_fit { v ≤ last_level }
-    ensures { Chooses (entering packed high work room) (leaving packed high work result) v lo hi result.root }
-{
-    if !can_apply(room, lo, hi) {
-        return room;
+    // The entry of the negation.
+    pub fn not(&mut self, f: u32) -> Result<u32, Full>
+        ensures { Maps (entering self.old) (leaving self.new result) ¬'◌ f (entry_of result) }
+    {
+        self.apply(Operation::Not, f, 0)
     }
-    if !is_deeper(v, lo, packed) {
-        return room;
+
+    // The entry of f with level v fixed to b.
+    pub fn fix(&mut self, f: u32, v: u8, b: bool) -> Result<u32, Full>
+        requires { v ≤ last_level }
+        ensures { Maps (entering self.old) (leaving self.new result) (fix v b) f (entry_of result) }
+    {
+        self.apply(Operation::Fix(v, b), f, 0)
     }
-    if !is_deeper(v, hi, packed) {
-        return room;
+
+    // The entry of ∃v f: f with v = 0, or f with v = 1.
+    pub fn exists(&mut self, f: u32, v: u8) -> Result<u32, Full>
+        requires { v ≤ last_level }
+        ensures { Maps (entering self.old) (leaving self.new result) (some v) f (entry_of result) }
+    {
+        if !self.are_used(f, f) {
+            return Ok(f);
+        }
+        let r = self.quantify(v, f)?;
+        Ok(r.any)
     }
-    let m = make(packed, high, work, room.used, v, lo, hi);
-    room_after(m, packed.len())
+
+    // Whether f is an entry whose level is above v.
+    fn is_deeper(&self, v: u8, f: u32) -> bool
+        ensures { result ≡ is_deeper v f (levels self.now.packed.now) }
+    {
+        match self.packed.get(f as usize) {
+            Some(word) => (v as u32) < *word / MAX_LENGTH,
+            None => false,
+        }
+    }
+
+    // The node of level v over low and high, which stand for functions of higher levels. Where there can be none, the answer is low.
+    pub fn node(&mut self, v: u8, low: u32, high: u32) -> Result<u32, Full>
+        requires { v ≤ last_level }
+        ensures { Chooses (entering self.old) (leaving self.new result) v low high (entry_of result) }
+    {
+        if !self.are_used(low, high) {
+            return Ok(low);
+        }
+        if !(self.is_deeper(v, low) && self.is_deeper(v, high)) {
+            return Ok(low);
+        }
+        let level = v;
+        self.make(Node { level, low, high })
+    }
 }

@@ -1,52 +1,55 @@
 // The computed table: results of operations, in slots of four words, each written over by the next one of its place.
 ghost use Rattle.std.specs.Prelude.{◌≤◌, ◌<◌};
 ghost use Rattle.nodes.specs.internal.Parts.{memo_in};
-ghost use Rattle.nodes.specs.internal.Operate.{last_operation, last_number, slots_in, Recalled, Keeping};
+ghost use Rattle.nodes.specs.internal.Operate.{last_operation, last_number, slots_in, Recalled, Remembers};
 
-use super::unique::Found;
 use super::work::{memory_at, slot, slots};
 
-// The slot for the result of an operation with three numbers, whichever it is. Where the memory has no slot, it is none.
-pub(crate) fn slot_for(work: &[u32], a: u32, b: u32, c: u32) -> usize
+// What a result is found by: the number of an operation, or that of ∃ of a level and an entry, and two entries.
+#[derive(Clone, Copy)]
+pub(crate) struct Key {
+    pub number: u32,
+    pub left: u32,
+    pub right: u32,
+}
+
+// A key's slot. Where the memory has no slot, it is none.
+pub(crate) fn slot_for(work: &[u32], key: Key) -> usize
     ensures { 0 < slots_in work.now → result < slots_in work.now }
 {
     let n = slots(work);
     if n == 0 {
         return 0;
     }
-    slot(a, b, c, n)
+    slot(key.number, key.left, key.right, n)
 }
 
 // The result of an operation, where slot s of the memory has it.
-pub(crate) fn recall(work: &[u32], s: usize, op: u32, f: u32, g: u32) -> Found
-    requires { op ≤ last_operation }
-    ensures { Recalled (memo_in work.now) op f g result }
+pub(crate) fn recall(work: &[u32], s: usize, key: Key) -> Option<u32>
+    requires { key.number ≤ last_operation }
+    ensures { Recalled (memo_in work.now) key result }
 {
     if slots(work) <= s {
-        return Found::Nothing;
+        return None;
     }
     let at = memory_at(work) + 4 * s;
-    if work[at] == op + 1 {
-        if work[at + 1] == f {
-            if work[at + 2] == g {
-                return Found::At(work[at + 3]);
-            }
-        }
+    if work[at] == key.number + 1 && work[at + 1] == key.left && work[at + 2] == key.right {
+        return Some(work[at + 3]);
     }
-    Found::Nothing
+    None
 }
 
-// Writes the result r of an operation to slot s of the memory, if it has that slot, in the place of what was there.
-pub(crate) fn remember(work: &mut [u32], s: usize, op: u32, f: u32, g: u32, r: u32)
-    requires { op ≤ last_number }
-    ensures { Keeping work.old op f g r work.new }
+// Writes a key's result to slot s of the memory, if it has that slot, in the place of what was there.
+pub(crate) fn remember(work: &mut [u32], s: usize, key: Key, r: u32)
+    requires { key.number ≤ last_number }
+    ensures { Remembers work.old key r work.new }
 {
     if slots(work) <= s {
         return;
     }
     let at = memory_at(work) + 4 * s;
-    work[at] = op + 1;
-    work[at + 1] = f;
-    work[at + 2] = g;
+    work[at] = key.number + 1;
+    work[at + 1] = key.left;
+    work[at + 2] = key.right;
     work[at + 3] = r;
 }

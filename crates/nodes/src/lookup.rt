@@ -1,143 +1,137 @@
 // A look-up in a node table: a walk from a root by the bits of an action and four state codes.
 ghost use Rattle.std.specs.Prelude.{◌≡◌, ◌+◌, length};
 ghost use Rattle.nodes.specs.Table.{last_level};
-ghost use Rattle.nodes.specs.Lookup.{slices, table_fits, small, looked_up, walk_from, look_up};
+ghost use Rattle.nodes.specs.Lookup.{slices, table_fits, small, looked_up, walk_from, look_up, error_number};
 
 use super::levels::digit_at;
 use super::limits::{CODES, LAST_LEVEL, MAX_LENGTH};
+use std::fmt;
 
-// What a look-up answers: the value at the end of its walk, or a refusal.
+// Document 01's slices of a table.
 #[derive(Clone, Copy)]
-pub enum Looked {
-    Value(u8),
-    Turned(u8),
+pub struct TableSlices<'a> {
+    pub level: &'a [u8],
+    pub low: &'a [u32],
+    pub high: &'a [u32],
+}
+
+// What is looked up: an action, and the codes of the left and the right model's states now and next.
+#[derive(Clone, Copy, Debug, PartialEq, Eq)]
+pub struct Point {
+    pub action: u64,
+    pub left_now: u64,
+    pub left_next: u64,
+    pub right_now: u64,
+    pub right_next: u64,
+}
+
+// Why a look-up is refused.
+#[derive(Clone, Copy, Debug, PartialEq, Eq)]
+pub enum LookUpError {
+    // The slices are of different lengths, or too short or too long.
+    Table,
+    // The action or a code is out of range, or the walk leaves the table.
+    Outside,
+}
+
+impl LookUpError {
+    // Its number in document 01.
+    pub fn number(self) -> u8
+        ensures { result ≡ error_number self }
+    {
+        match self {
+            LookUpError::Table => 7,
+            LookUpError::Outside => 10,
+        }
+    }
+}
+
+impl fmt::Display for LookUpError {
+    fn fmt<W: fmt::Write>(&self, f: &mut fmt::Formatter<W>) -> fmt::Result {
+        let words = match self {
+            LookUpError::Table => "the table's slices don't fit",
+            LookUpError::Outside => "action or code out of range, or no entry of the table",
+        };
+        f.write_str(words)
+    }
 }
 
 // The slices of a table are of one length, from 2 to the longest.
-pub fn slices_fit(level: &[u8], low: &[u32], high: &[u32]) -> bool
-    ensures { result ≡ table_fits (slices level.now low.now high.now) }
+pub fn slices_fit(table: TableSlices) -> bool
+    ensures { result ≡ table_fits (slices table.entry.level.now table.entry.low.now table.entry.high.now) }
 {
-    if low.len() != level.len() {
-        return false;
-    }
-    if high.len() != level.len() {
-        return false;
-    }
-    if level.len() < 2 {
-        return false;
-    }
-    level.len() <= MAX_LENGTH as usize
+    let n = table.level.len();
+    table.low.len() == n && table.high.len() == n && 2 <= n && n <= MAX_LENGTH as usize
 }
 
 // An action of 6 bits, and state codes of at most MAX_BITS.
 #[tactic(auto, unfolding(crate::specs::Lookup::small))]
-fn values_fit(action: u64, x: u64, x1: u64, y: u64, y1: u64) -> bool
-    ensures { result ≡ small action x x1 y y1 }
+fn is_small(p: Point) -> bool
+    ensures { result ≡ small p.action p.left_now p.left_next p.right_now p.right_next }
 {
-    if 63 < action {
-        return false;
-    }
-    if CODES <= x {
-        return false;
-    }
-    if CODES <= x1 {
-        return false;
-    }
-    if CODES <= y {
-        return false;
-    }
-    y1 < CODES
+    p.action <= 63
+        && p.left_now < CODES
+        && p.left_next < CODES
+        && p.right_now < CODES
+        && p.right_next < CODES
 }
 
 // The bit of a look-up at level v: the action's, or that of the code in the level's slot. Middle bits are 0.
-fn bit_at(v: u8, action: u64, x: u64, x1: u64, y: u64, y1: u64) -> bool
-    ensures { result ≡ looked_up action x x1 y y1 v }
+fn bit_at(v: u8, p: Point) -> bool
+    ensures { result ≡ looked_up p.action p.left_now p.left_next p.right_now p.right_next v }
 {
     if v < 6 {
-        return digit_at(action, v);
+        return digit_at(p.action, v);
     }
-    let slot = (v - 6) % 6;
     let k = (v - 6) / 6;
-    if slot == 0 {
-        return digit_at(x, k);
+    match (v - 6) % 6 {
+        0 => digit_at(p.left_now, k),
+        1 => digit_at(p.left_next, k),
+        3 => digit_at(p.right_now, k),
+        4 => digit_at(p.right_next, k),
+        _ => false,
     }
-    if slot == 1 {
-        return digit_at(x1, k);
-    }
-    if slot == 3 {
-        return digit_at(y, k);
-    }
-    if slot == 4 {
-        return digit_at(y1, k);
-    }
-    false
 }
 
 // The walk from an entry: it ends at entry 0 or 1, and each node's level is above the last.
-fn walk(
-    level: &[u8],
-    low: &[u32],
-    high: &[u32],
-    root: u64,
-    action: u64,
-    x: u64,
-    x1: u64,
-    y: u64,
-    y1: u64,
-) -> Looked
-    requires { (length low.now ≡ length level.now) × (length high.now ≡ length level.now) }
-    ensures { result ≡ walk_from (last_level + 2) (slices level.now low.now high.now) (looked_up action x x1 y y1) 0 root }
+fn walk(table: TableSlices, root: u64, p: Point) -> Result<bool, LookUpError>
+    requires { (length table.low.now ≡ length table.level.now) × (length table.high.now ≡ length table.level.now) }
+    ensures { result ≡ walk_from (last_level + 2) (slices table.entry.level.now table.entry.low.now table.entry.high.now) (looked_up p.action p.left_now p.left_next p.right_now p.right_next) 0 root }
 {
+    let level = table.level;
     let mut i = root as usize;
     let mut from: u8 = 0;
-    let mut n: u8 = LAST_LEVEL + 2;
-    while 0 < n {
-        if i == 0 {
-            return Looked::Value(0);
-        }
-        if i == 1 {
-            return Looked::Value(1);
+    for _ in 0..LAST_LEVEL + 2 {
+        if i < 2 {
+            return Ok(i == 1);
         }
         if level.len() <= i {
-            return Looked::Turned(10);
+            return Err(LookUpError::Outside);
         }
         let v = level[i];
-        if v < from {
-            return Looked::Turned(10);
+        if v < from || LAST_LEVEL < v {
+            return Err(LookUpError::Outside);
         }
-        if LAST_LEVEL < v {
-            return Looked::Turned(10);
-        }
-        let up = bit_at(v, action, x, x1, y, y1);
-        let child = if up { high[i] } else { low[i] };
+        let child = if bit_at(v, p) {
+            table.high[i]
+        } else {
+            table.low[i]
+        };
         i = child as usize;
         from = v + 1;
-        n = n - 1;
     }
-    Looked::Turned(10)
+    Err(LookUpError::Outside)
 }
 
-// The value at an action and four state codes, from a root: refusal 7, then 10, else 0 or 1. Every number may be anything.
-pub fn look_up(
-    level: &[u8],
-    low: &[u32],
-    high: &[u32],
-    root: u64,
-    action: u64,
-    left_now: u64,
-    left_next: u64,
-    right_now: u64,
-    right_next: u64,
-) -> Looked
-    ensures { result ≡ look_up (slices level.now low.now high.now) root action left_now left_next right_now right_next }
+// The value at a point, from a root: refusal 7, then 10, else the value. Every number may be anything.
+pub fn look_up(table: TableSlices, root: u64, p: Point) -> Result<bool, LookUpError>
+    ensures { result ≡ look_up (slices table.entry.level.now table.entry.low.now table.entry.high.now) root p.action p.left_now p.left_next p.right_now p.right_next }
 {
-    if !slices_fit(level, low, high) {
-        return Looked::Turned(7);
+    if !slices_fit(table) {
+        return Err(LookUpError::Table);
     }
-    if !values_fit(action, left_now, left_next, right_now, right_next) {
-        return Looked::Turned(10);
+    if !is_small(p) {
+        return Err(LookUpError::Outside);
     }
-    walk(
-        level, low, high, root, action, left_now, left_next, right_now, right_next,
-    )
+    walk(table, root, p)
 }

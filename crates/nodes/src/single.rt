@@ -2,130 +2,75 @@
 ghost use Rattle.std.specs.Prelude.{◌≡◌, ◌+◌, ◌≤◌, ◌<◌};
 ghost use Rattle.nodes.specs.Fun.{same};
 ghost use Rattle.nodes.specs.Table.{last_level};
-ghost use Rattle.nodes.specs.internal.Single.{guarded, paired, Guards, Spaced, number_is, number_below, numbers_same};
-ghost use Rattle.nodes.specs.internal.Lent.{holding, entering, leaving};
-ghost use Rattle.nodes.specs.internal.Work.{Ready, Lists};
+ghost use Rattle.nodes.specs.internal.Single.{guarded, paired, Guards, number_is, number_below, numbers_same};
+ghost use Rattle.nodes.specs.internal.Spaced.{Spaced};
+ghost use Rattle.nodes.specs.internal.Lent.{entering, leaving, entry_of};
+ghost use Rattle.nodes.specs.internal.Work.{Lists};
 
 use super::apply::{larger, pick, smaller};
-use super::calls::node;
-use super::room::{Room, constant};
+use super::levels::Levels;
+use super::manager::{Full, Manager};
 
-// f where level v is b, and false elsewhere.
-fn guard(
-    v: u8,
-    b: bool,
-    f: u32,
-    room: Room,
-    packed: &mut [u32],
-    high: &mut [u32],
-    work: &mut [u32],
-) -> Room
-    requires ready { Ready (holding packed high work room) }
-    requires levels_fit { v ≤ last_level }
-    ensures { Guards (entering packed high work room) (leaving packed high work result) (v + 1) (guarded v b) f result.root }
-{
-    let lo = pick(b, 0, f);
-    let hi = pick(b, f, 0);
-    node(v, lo, hi, room, packed, high, work)
-}
-
-// f where levels v and w, v the lower one, are equal, and false elsewhere.
-fn pair(
-    v: u8,
-    w: u8,
-    f: u32,
-    room: Room,
-    packed: &mut [u32],
-    high: &mut [u32],
-    work: &mut [u32],
-) -> Room
-    requires ready { Ready (holding packed high work room) }
-    requires deeper { (v < w) × (w ≤ last_level) }
-    ensures { Guards (entering packed high work room) (leaving packed high work result) (w + 1) (paired v w) f result.root }
-{
-    let a = guard(w, false, f, room, packed, high, work);
-    let b = guard(w, true, f, a, packed, high, work);
-    node(v, a.root, b.root, b, packed, high, work)
-}
-
-// The number whose w digits stand at the levels v, v + k and so on is `code`.
-pub fn number_is(
-    code: u32,
-    v: u8,
-    k: u8,
-    w: u8,
-    room: Room,
-    packed: &mut [u32],
-    high: &mut [u32],
-    work: &mut [u32],
-) -> Room
-    requires ready { Ready (holding packed high work room) }
-    requires spaced { Spaced v k w 1 }
-    ensures { Lists (entering packed high work room) (leaving packed high work result) (number_is v k w code) result.root }
-{
-    if w == 0 {
-        return constant(code == 0, room);
+impl<'packed, 'high, 'work> Manager<'packed, 'high, 'work> {
+    // f where level v is b, and false elsewhere.
+    fn guard(&mut self, v: u8, b: bool, f: u32) -> Result<u32, Full>
+        requires { v ≤ last_level }
+        ensures { Guards (entering self.old) (leaving self.new result) (v + 1) (guarded v b) f (entry_of result) }
+    {
+        self.node(v, pick(b, 0, f), pick(b, f, 0))
     }
-    let m = number_is(code / 2, v + k, k, w - 1, room, packed, high, work);
-    guard(v, code % 2 == 1, m.root, m, packed, high, work)
-}
 
-// It is below n.
-pub fn number_below(
-    n: u32,
-    v: u8,
-    k: u8,
-    w: u8,
-    room: Room,
-    packed: &mut [u32],
-    high: &mut [u32],
-    work: &mut [u32],
-) -> Room
-    requires ready { Ready (holding packed high work room) }
-    requires spaced { Spaced v k w 1 }
-    ensures { Lists (entering packed high work room) (leaving packed high work result) (number_below v k w n) result.root }
-{
-    if w == 0 {
-        return constant(0 < n, room);
+    // f where levels v and w, v the lower one, are equal, and false elsewhere.
+    fn pair(&mut self, v: u8, w: u8, f: u32) -> Result<u32, Full>
+        requires { (v < w) × (w ≤ last_level) }
+        ensures { Guards (entering self.old) (leaving self.new result) (w + 1) (paired v w) f (entry_of result) }
+    {
+        let low = self.guard(w, false, f)?;
+        let high = self.guard(w, true, f)?;
+        self.node(v, low, high)
     }
-    let a = number_below(n / 2 + n % 2, v + k, k, w - 1, room, packed, high, work);
-    let b = number_below(n / 2, v + k, k, w - 1, a, packed, high, work);
-    node(v, a.root, b.root, b, packed, high, work)
-}
 
-// It is the number whose digits stand one level on.
-pub fn numbers_same(
-    v: u8,
-    k: u8,
-    w: u8,
-    room: Room,
-    packed: &mut [u32],
-    high: &mut [u32],
-    work: &mut [u32],
-) -> Room
-    requires ready { Ready (holding packed high work room) }
-    requires spaced { Spaced v k w 2 }
-    ensures { Lists (entering packed high work room) (leaving packed high work result) (numbers_same v k w) result.root }
-{
-    if w == 0 {
-        return constant(true, room);
+    // The number whose digits stand at the levels is `code`.
+    pub fn number_is(&mut self, code: u32, levels: Levels) -> Result<u32, Full>
+        ensures { Lists (entering self.old) (leaving self.new result) (number_is levels.first levels.apart levels.count code) (entry_of result) }
+    {
+        if levels.count == 0 {
+            return Ok((code == 0) as u32);
+        }
+        let m = self.number_is(code / 2, levels.rest())?;
+        self.guard(levels.first, code % 2 == 1, m)
     }
-    let m = numbers_same(v + k, k, w - 1, room, packed, high, work);
-    pair(v, v + 1, m.root, m, packed, high, work)
-}
 
-// Level v = level w.
-pub fn same(
-    v: u8,
-    w: u8,
-    room: Room,
-    packed: &mut [u32],
-    high: &mut [u32],
-    work: &mut [u32],
-) -> Room
-    requires ready { Ready (holding packed high work room) }
-    requires levels_fit { (v ≤ last_level) × (w ≤ last_level) × (v ≡ w → ⊥) }
-    ensures { Lists (entering packed high work room) (leaving packed high work result) (same v w) result.root }
-{
-    pair(smaller(v, w), larger(v, w), 1, room, packed, high, work)
+    // It is below n.
+    pub fn number_below(&mut self, n: u32, levels: Levels) -> Result<u32, Full>
+        ensures { Lists (entering self.old) (leaving self.new result) (number_below levels.first levels.apart levels.count n) (entry_of result) }
+    {
+        if levels.count == 0 {
+            return Ok((0 < n) as u32);
+        }
+        let low = self.number_below(n / 2 + n % 2, levels.rest())?;
+        let high = self.number_below(n / 2, levels.rest())?;
+        self.node(levels.first, low, high)
+    }
+
+    // It is the number whose digits stand one level on.
+    pub fn numbers_same(&mut self, levels: Levels) -> Result<u32, Full>
+        requires { Spaced levels.first levels.apart levels.count 2 }
+        ensures { Lists (entering self.old) (leaving self.new result) (numbers_same levels.first levels.apart levels.count) (entry_of result) }
+    {
+        if levels.count == 0 {
+            return Ok(1);
+        }
+        let m = self.numbers_same(levels.rest())?;
+        let v = levels.first;
+        self.pair(v, v + 1, m)
+    }
+
+    // Level v = level w.
+    pub fn same(&mut self, v: u8, w: u8) -> Result<u32, Full>
+        requires { (v ≤ last_level) × (w ≤ last_level) × (v ≡ w → ⊥) }
+        ensures { Lists (entering self.old) (leaving self.new result) (same v w) (entry_of result) }
+    {
+        self.pair(smaller(v, w), larger(v, w), 1)
+    }
 }

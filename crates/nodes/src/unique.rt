@@ -3,71 +3,59 @@ ghost use Rattle.std.specs.Prelude.{◌<◌};
 ghost use Rattle.nodes.specs.internal.Parts.{links_in, heads_in};
 ghost use Rattle.nodes.specs.Table.{max_length, WellFormed};
 ghost use Rattle.nodes.specs.internal.Index.{coverage, Indexing, InIndex, Begins, LinkingAt};
-ghost use Rattle.nodes.specs.internal.Make.{Makeable, FindsFrom, FindsBelow, Finds, MakingNode, Making, node_fun};
+ghost use Rattle.nodes.specs.internal.Make.{Makeable, FindsFrom, FindsBelow, Finds, MakesNode, Makes, held, node_fun};
 ghost use Rattle.nodes.specs.internal.Packed.{packed_table};
-ghost use Rattle.nodes.specs.internal.Lent.{table_of, table_in};
+ghost use Rattle.nodes.specs.internal.Lent.{table_of, held_by, entering, leaving};
+ghost use Rattle.nodes.specs.internal.Work.{Keeps};
 
 use super::limits::MAX_LENGTH;
+use super::manager::{Full, Manager};
 use super::work::{covered, covers, hash, hashes};
 
-// The answer of an operation: the entry of its result with the number of entries then in use, or
-// that the table is too short.
+// A node: its level, its low child and its high child.
 #[derive(Clone, Copy)]
-pub enum Made {
-    At(u32, u32),
-    Full,
+pub(crate) struct Node {
+    pub level: u8,
+    pub low: u32,
+    pub high: u32,
 }
 
-// What the step that makes a node says of it: it was found, it is new, or there is no entry for it.
+// What the step that makes a node says of it: it was found, or it is new.
 #[derive(Clone, Copy)]
 pub enum MadeNode {
     Found(u32),
     New(u32),
-    Full,
 }
 
-#[derive(Clone, Copy)]
-pub enum Found {
-    At(u32),
-    Nothing,
-}
-
-// Where the chain of the node of level v with children lo and hi begins: the place of its head in `work`, and 0 where the
-// index has no head.
-fn head_of(work: &[u32], v: u8, lo: u32, hi: u32) -> usize
-    ensures { Begins work.now v lo hi result }
+// Where the chain of a node begins: the place of its head in `work`, and 0 where the index has no head.
+fn head_of(work: &[u32], node: Node) -> usize
+    ensures { Begins work.now node.level node.low node.high result }
 {
     let n = hashes(work);
     if n == 0 {
         return 0;
     }
-    1 + covers(work) + hash(v as u32, lo, hi, n)
+    1 + covers(work) + hash(node.level as u32, node.low, node.high, n)
 }
 
-// The node of level v with children lo and hi, if it is one of the entries from `from` on.
-fn find_from(packed: &[u32], high: &[u32], used: u32, from: usize, v: u8, lo: u32, hi: u32) -> Found
+// The node, if it is one of the entries from `from` on.
+fn find_from(packed: &[u32], high: &[u32], used: u32, from: usize, node: Node) -> Option<u32>
     requires well_formed { WellFormed (packed_table packed.now high.now used) }
-    requires low_fits { lo < max_length }
-    ensures { FindsFrom from (packed_table packed.now high.now used) v lo hi result }
+    requires low_fits { node.low < max_length }
+    ensures { FindsFrom from (packed_table packed.now high.now used) node.level node.low node.high result }
 {
     if (used as usize) <= from {
-        return Found::Nothing;
+        return None;
     }
-    let mut i: u32 = 2;
-    if 2 < from {
-        i = from as u32;
-    }
-    let word = (v as u32) * MAX_LENGTH + lo;
-    while i < used {
+    let word = (node.level as u32) * MAX_LENGTH + node.low;
+    let first = if 2 < from { from as u32 } else { 2 };
+    for i in first..used {
         let at = i as usize;
-        if packed[at] == word {
-            if high[at] == hi {
-                return Found::At(i);
-            }
+        if packed[at] == word && high[at] == node.high {
+            return Some(i);
         }
-        i += 1;
     }
-    Found::Nothing
+    None
 }
 
 // The same among the entries that the index covers, by their chain.
@@ -77,31 +65,28 @@ fn find_chained(
     work: &[u32],
     used: u32,
     head: usize,
-    v: u8,
-    lo: u32,
-    hi: u32,
-) -> Found
+    node: Node,
+) -> Option<u32>
     requires well_formed { WellFormed (packed_table packed.now high.now used) }
     requires indexing { Indexing (packed_table packed.now high.now used) work.now }
-    requires begins { Begins work.now v lo hi head }
-    requires low_fits { lo < max_length }
-    ensures { FindsBelow (coverage (heads_in work.now) (links_in work.now)) (packed_table packed.now high.now used) v lo hi result }
+    requires begins { Begins work.now node.level node.low node.high head }
+    requires low_fits { node.low < max_length }
+    ensures { FindsBelow (coverage (heads_in work.now) (links_in work.now)) (packed_table packed.now high.now used) node.level node.low node.high result }
 {
     if head == 0 {
-        return Found::Nothing;
+        return None;
     }
-    let word = (v as u32) * MAX_LENGTH + lo;
+    let word = (node.level as u32) * MAX_LENGTH + node.low;
     let mut i = work[head];
+    // Kept: a chain gives the next entry, not a count.
     while 2 <= i {
         let at = i as usize;
-        if packed[at] == word {
-            if high[at] == hi {
-                return Found::At(i);
-            }
+        if packed[at] == word && high[at] == node.high {
+            return Some(i);
         }
         i = work[1 + at];
     }
-    Found::Nothing
+    None
 }
 
 // The same among all entries in use.
@@ -111,20 +96,19 @@ fn find(
     work: &[u32],
     used: u32,
     head: usize,
-    v: u8,
-    lo: u32,
-    hi: u32,
-) -> Found
+    node: Node,
+) -> Option<u32>
     requires well_formed { WellFormed (packed_table packed.now high.now used) }
     requires indexing { Indexing (packed_table packed.now high.now used) work.now }
-    requires begins { Begins work.now v lo hi head }
-    requires low_fits { lo < max_length }
-    ensures { Finds (packed_table packed.now high.now used) v lo hi result }
+    requires begins { Begins work.now node.level node.low node.high head }
+    requires low_fits { node.low < max_length }
+    ensures { Finds (packed_table packed.now high.now used) node.level node.low node.high result }
 {
-    match find_chained(packed, high, work, used, head, v, lo, hi) {
-        Found::At(i) => Found::At(i),
-        Found::Nothing => find_from(packed, high, used, covered(work), v, lo, hi),
+    let found = find_chained(packed, high, work, used, head, node);
+    if found.is_some() {
+        return found;
     }
+    find_from(packed, high, used, covered(work), node)
 }
 
 // Puts the new node `used` before the others of the chain that begins at `head`, where the index covers it.
@@ -142,58 +126,70 @@ fn link(work: &mut [u32], used: u32, head: usize)
     }
 }
 
-// The entry of the function that is hi's where level v is true and lo's elsewhere, and whether it is new: a node is made only
-// where there is none.
+// The entry of the function that is the high child's where the node's level is true and the low child's elsewhere, and whether it is new: a
+// node is made only where there is none.
 fn make_node(
     packed: &mut [u32],
     high: &mut [u32],
     work: &mut [u32],
     used: u32,
-    v: u8,
-    lo: u32,
-    hi: u32,
-) -> MadeNode
-    requires makeable { Makeable (table_of packed high used) v lo hi }
-    requires indexing { Indexing (table_of packed high used) work.old }
-    ensures { MakingNode (table_in packed high used) packed.new high.new work.old work.new (node_fun (table_in packed high used) v lo hi) result }
+    node: Node,
+) -> Result<MadeNode, Full>
+    requires makeable { Makeable (packed_table packed.old high.old used) node.level node.low node.high }
+    requires indexing { Indexing (packed_table packed.old high.old used) work.old }
+    ensures { MakesNode (held packed.old high.old work.old used) packed.new high.new work.new (node_fun (packed_table packed.old high.old used) node.level node.low node.high) result }
 {
-    if lo == hi {
-        return MadeNode::Found(lo);
+    if node.low == node.high {
+        return Ok(MadeNode::Found(node.low));
     }
-    let head = head_of(work, v, lo, hi);
-    match find(packed, high, work, used, head, v, lo, hi) {
-        Found::At(i) => MadeNode::Found(i),
-        Found::Nothing => {
-            let at = used as usize;
-            if at < packed.len() {
-                packed[at] = (v as u32) * MAX_LENGTH + lo;
-                high[at] = hi;
-                link(work, used, head);
-                MadeNode::New(used)
-            } else {
-                MadeNode::Full
-            }
+    let head = head_of(work, node);
+    if let Some(i) = find(packed, high, work, used, head, node) {
+        return Ok(MadeNode::Found(i));
+    }
+    let at = used as usize;
+    if packed.len() <= at {
+        return Err(Full);
+    }
+    packed[at] = (node.level as u32) * MAX_LENGTH + node.low;
+    high[at] = node.high;
+    link(work, used, head);
+    Ok(MadeNode::New(used))
+}
+
+// The same entry; where the node is new, one entry more is in use.
+fn make(
+    packed: &mut [u32],
+    high: &mut [u32],
+    work: &mut [u32],
+    used: &mut u32,
+    node: Node,
+) -> Result<u32, Full>
+    requires makeable { Makeable (packed_table packed.old high.old used.old) node.level node.low node.high }
+    requires indexing { Indexing (packed_table packed.old high.old used.old) work.old }
+    ensures { Makes (held packed.old high.old work.old used.old) (held packed.new high.new work.new used.new) (node_fun (packed_table packed.old high.old used.old) node.level node.low node.high) result }
+{
+    match make_node(packed, high, work, *used, node)? {
+        MadeNode::Found(i) => Ok(i),
+        MadeNode::New(i) => {
+            *used += 1;
+            Ok(i)
         }
     }
 }
 
-// The same entry, with the number of entries then in use: one more where the node is new.
-pub fn make(
-    packed: &mut [u32],
-    high: &mut [u32],
-    work: &mut [u32],
-    used: u32,
-    v: u8,
-    lo: u32,
-    hi: u32,
-) -> Made
-    requires makeable { Makeable (table_of packed high used) v lo hi }
-    requires indexing { Indexing (table_of packed high used) work.old }
-    ensures { Making (table_in packed high used) packed.new high.new work.old work.new (node_fun (table_in packed high used) v lo hi) result }
-{
-    match make_node(packed, high, work, used, v, lo, hi) {
-        MadeNode::Found(i) => Made::At(i, used),
-        MadeNode::New(i) => Made::At(i, used + 1),
-        MadeNode::Full => Made::Full,
+impl<'packed, 'high, 'work> Manager<'packed, 'high, 'work> {
+    // The entry of a node's function.
+    pub(crate) fn make(&mut self, node: Node) -> Result<u32, Full>
+        requires { Makeable (table_of self.old) node.level node.low node.high }
+        ensures kept { Keeps (entering self.old) (leaving self.new result) }
+        ensures makes { Makes (held_by self.old) (held_by self.new) (node_fun (table_of self.old) node.level node.low node.high) result }
+    {
+        make(
+            self.packed,
+            self.high,
+            self.work,
+            &mut self.used,
+            node,
+        )
     }
 }

@@ -1,5 +1,6 @@
 -- How a table grows by a function: it has it, or it is full and lacks a part of it. Assumes nothing.
-use Rattle.std.specs.Prelude.{◌≡◌, ℕ, ◌≤◌, ◌<◌, length}
+use Rattle.std.specs.Prelude.{◌≡◌, ℕ, ◌≤◌, ◌<◌, length, Result, Ok, Err}
+use Rattle.nodes.specs.declared.manager.Full.{Full}
 use Rattle.nodes.specs.Fun.{Fun, Part, Varies}
 use Rattle.nodes.specs.Table.{Table, level_of, low_of, high_of, den, WellFormed}
 
@@ -35,3 +36,8 @@ pub record Short (t t' : Table) (f : Fun) : Type 0 where
   pub needed : Part f lacking
   pub varies : Varies lacking
   pub absent : Absent t' lacking
+
+-- what an operation answers whose result is f: an entry that stands for it, or that the table is too short
+abbrev pub Answers : Table → Table → Fun → Result ℕ Full → Type 0
+Answers t t' f (Ok i) = Built t t' f i
+Answers t t' f (Err e) = Short t t' f

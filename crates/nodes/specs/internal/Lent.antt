@@ -1,33 +1,37 @@
--- The slices that a call is lent, as the clauses of a contract name them: at entry, and what a `&mut` one holds at exit. Assumes nothing.
-use Rattle.std.specs.Prelude.{List, ℕ}
-use Rattle.std.specs.Borrow.{MutBor}
-use denote.Triple.Both.{Both}
-use Rattle.nodes.specs.declared.room.Room.{Room}
+-- A manager that is lent to a call, as the clauses of a contract name it: the store that the call finds, and the one that it leaves. Assumes nothing.
+use Rattle.std.specs.Prelude.{Bool, false, ℕ, Result, Ok, Err, is_err}
+use Rattle.nodes.specs.declared.manager.Full.{Full}
+use Rattle.nodes.specs.declared.manager.Manager.{Manager}
 use Rattle.nodes.specs.Table.{Table}
 use Rattle.nodes.specs.internal.Packed.{packed_table}
-use Rattle.nodes.specs.internal.Work.{Store, store}
+use Rattle.nodes.specs.internal.Make.{Held, held}
+use Rattle.nodes.specs.internal.Work.{Store}
 
--- a `&mut` slice in a `requires`, and in an `ensures`
-abbrev pub Slice : Type 0
-Slice = MutBor (List ℕ)
+abbrev pub table_of : Manager → Table
+table_of m = packed_table m.packed.now m.high.now m.used
 
-abbrev pub Lent : Type 0
-Lent = Both Slice Slice
+abbrev pub held_by : Manager → Held
+held_by m = held m.packed.now m.high.now m.work.now m.used
 
--- the store that a call asks for
-abbrev pub holding : Slice → Slice → Slice → Room → Store
-holding packed high work room = store packed.now high.now work.now room
+abbrev pub store : Manager → Bool → Store
+store m full = record {
+  table = table_of m;
+  packed = m.packed.now;
+  work = m.work.now;
+  names = record { packed = m.packed.ghost_name; high = m.high.ghost_name; work = m.work.ghost_name };
+  full = full;
+  formed = m.formed;
+}
 
--- the store that it is given, and the one that it leaves
-abbrev pub entering : Lent → Lent → Lent → Room → Store
-entering packed high work room = holding packed.entry high.entry work.entry room
+-- the store that a call finds
+abbrev pub entering : Manager → Store
+entering m = store m false
 
-abbrev pub leaving : Lent → Lent → Lent → Room → Store
-leaving packed high work room = holding packed.exit high.exit work.exit room
+-- the store that it leaves, with its answer: `Full` says that a node did not fit
+abbrev pub leaving : {A : Type 0} → Manager → Result A Full → Store
+leaving m r = store m (is_err r)
 
--- the table that a call asks for, with so many entries in use, and the one that it is given
-abbrev pub table_of : Slice → Slice → ℕ → Table
-table_of packed high used = packed_table packed.now high.now used
-
-abbrev pub table_in : Lent → Lent → ℕ → Table
-table_in packed high used = table_of packed.entry high.entry used
+-- the entry that it answers
+abbrev pub entry_of : Result ℕ Full → ℕ
+entry_of (Ok i) = i
+entry_of (Err e) = 0

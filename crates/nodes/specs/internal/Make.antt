@@ -1,16 +1,13 @@
 -- What making a node needs and answers. Assumes nothing.
-use Rattle.std.specs.Prelude.{◌≡◌, List, ℕ, ◌+◌, ◌≤◌, ◌<◌, length}
-use Rattle.nodes.specs.declared.unique.Found.{Found}
-use Rattle.nodes.specs.declared.unique.Found.TheVariants as found
+use Rattle.std.specs.Prelude.{◌≡◌, List, ℕ, ◌+◌, ◌≤◌, ◌<◌, length, Option, Some, None, Result, Ok, Err}
+use Rattle.nodes.specs.declared.manager.Full.{Full}
 use Rattle.nodes.specs.declared.unique.MadeNode.{MadeNode}
-use Rattle.nodes.specs.declared.unique.MadeNode.TheVariants as node
-use Rattle.nodes.specs.declared.unique.Made.{Made}
-use Rattle.nodes.specs.declared.unique.Made.TheVariants as made
+use Rattle.nodes.specs.declared.unique.MadeNode.TheVariants.{Found, New}
 use Rattle.nodes.specs.Fun.{Fun}
-use Rattle.nodes.specs.internal.Packed.{levels, lows}
-use Rattle.nodes.specs.internal.Parts.{links_in, heads_in, memo_in}
-use Rattle.nodes.specs.internal.Index.{Indexed}
-use Rattle.nodes.specs.Table.{Table, table, last_level, level_of, low_of, high_of, choice, den, WellFormed}
+use Rattle.nodes.specs.internal.Packed.{packed_table}
+use Rattle.nodes.specs.internal.Parts.{memo_in}
+use Rattle.nodes.specs.internal.Index.{Indexing}
+use Rattle.nodes.specs.Table.{Table, last_level, level_of, low_of, high_of, choice, den, WellFormed}
 use Rattle.nodes.specs.internal.Growth.{Absent, Built}
 
 -- a node of level v with children lo and hi would be in order
@@ -31,18 +28,18 @@ pub record IsNode (t : Table) (v lo hi i : ℕ) : Type 0 where
   pub high : high_of t i ≡ hi
 
 -- an entry from `from` on is the node, or none is
-abbrev pub FindsFrom : ℕ → Table → ℕ → ℕ → ℕ → Found → Type 0
-FindsFrom from t v lo hi (found.At i) = IsNode t v lo hi i
-FindsFrom from t v lo hi found.Nothing = (i : ℕ) → from ≤ i → IsNode t v lo hi i → ⊥
+abbrev pub FindsFrom : ℕ → Table → ℕ → ℕ → ℕ → Option ℕ → Type 0
+FindsFrom from t v lo hi (Some i) = IsNode t v lo hi i
+FindsFrom from t v lo hi None = (i : ℕ) → from ≤ i → IsNode t v lo hi i → ⊥
 
 -- an entry below `to` is the node, or none is
-abbrev pub FindsBelow : ℕ → Table → ℕ → ℕ → ℕ → Found → Type 0
-FindsBelow to t v lo hi (found.At i) = IsNode t v lo hi i
-FindsBelow to t v lo hi found.Nothing = (i : ℕ) → i < to → IsNode t v lo hi i → ⊥
+abbrev pub FindsBelow : ℕ → Table → ℕ → ℕ → ℕ → Option ℕ → Type 0
+FindsBelow to t v lo hi (Some i) = IsNode t v lo hi i
+FindsBelow to t v lo hi None = (i : ℕ) → i < to → IsNode t v lo hi i → ⊥
 
-abbrev pub Finds : Table → ℕ → ℕ → ℕ → Found → Type 0
-Finds t v lo hi (found.At i) = IsNode t v lo hi i
-Finds t v lo hi found.Nothing = (i : ℕ) → IsNode t v lo hi i → ⊥
+abbrev pub Finds : Table → ℕ → ℕ → ℕ → Option ℕ → Type 0
+Finds t v lo hi (Some i) = IsNode t v lo hi i
+Finds t v lo hi None = (i : ℕ) → IsNode t v lo hi i → ⊥
 
 -- the function of a node
 abbrev pub node_fun : Table → ℕ → ℕ → ℕ → Fun
@@ -58,32 +55,38 @@ pub record MadeNew (t t' : Table) (f : Fun) (i : ℕ) : Type 0 where
   pub absent : Absent t f
   pub made : MadeAt t t' f i
 
--- t is full, no entry stands for f, and the lists are as they were
-pub record MadeFull (t : Table) (level low high : List ℕ) (f : Fun) : Type 0 where
-  pub same_level : level ≡ t.level
-  pub same_low : low ≡ t.low
-  pub same_high : high ≡ t.high
-  pub full : t.used ≡ length t.level
-  pub absent : Absent t f
+-- the lists that a call holds: the table in two, the work list, and how many entries are in use
+pub record Held : Type 0 where
+  pub packed : List ℕ
+  pub high : List ℕ
+  pub work : List ℕ
+  pub used : ℕ
+
+abbrev pub held : List ℕ → List ℕ → List ℕ → ℕ → Held
+held packed high work used = record { packed = packed; high = high; work = work; used = used }
+
+abbrev pub held_table : Held → Table
+held_table h = packed_table h.packed h.high h.used
+
+-- the table is full, no entry stands for f, and nothing was written
+pub record Lacking (h h' : Held) (f : Fun) : Type 0 where
+  pub full : h.used ≡ length h.packed
+  pub absent : Absent (held_table h) f
+  pub same : h' ≡ h
+
+-- the index covers the table, and the memory of results is as it was
+pub record Serves (h h' : Held) : Type 0 where
+  pub indexing : Indexing (held_table h') h'.work
+  pub memo : memo_in h'.work ≡ memo_in h.work
 
 -- The step that makes a node says whether it is new. Found: the entries in use are those of before, and i is one of them. New: i is the one entry more,
 -- and no entry stood for f before. Full: no entry stands for f, and none is left for it.
-abbrev pub MakesNode : Table → List ℕ → List ℕ → List ℕ → List ℕ → List ℕ → Fun → MadeNode → Type 0
-MakesNode t level low high head next f (node.Found i) =
-    MadeAt t (table level low high t.used) f i × Indexed (table level low high t.used) head next
-MakesNode t level low high head next f (node.New i) =
-    MadeNew t (table level low high (t.used + 1)) f i × Indexed (table level low high (t.used + 1)) head next
-MakesNode t level low high head next f node.Full = MadeFull t level low high f
+abbrev pub MakesNode : Held → List ℕ → List ℕ → List ℕ → Fun → Result MadeNode Full → Type 0
+MakesNode h packed high work f (Ok (Found i)) = let h' = held packed high work h.used in MadeAt (held_table h) (held_table h') f i × Serves h h'
+MakesNode h packed high work f (Ok (New i)) = let h' = held packed high work (h.used + 1) in MadeNew (held_table h) (held_table h') f i × Serves h h'
+MakesNode h packed high work f (Err e) = Lacking h (held packed high work h.used) f
 
--- its caller counts: the entry comes with the number of entries then in use
-abbrev pub Makes : Table → List ℕ → List ℕ → List ℕ → List ℕ → List ℕ → Fun → Made → Type 0
-Makes t level low high head next f (made.At i n) = MadeAt t (table level low high n) f i × Indexed (table level low high n) head next
-Makes t level low high head next f made.Full = MadeFull t level low high f
-
--- the same of the lists that a call holds: the memory of results is as it was
-abbrev pub MakingNode : Table → List ℕ → List ℕ → List ℕ → List ℕ → Fun → MadeNode → Type 0
-MakingNode t packed high work work' f r =
-    MakesNode t (levels packed) (lows packed) high (heads_in work') (links_in work') f r × (memo_in work' ≡ memo_in work)
-
-abbrev pub Making : Table → List ℕ → List ℕ → List ℕ → List ℕ → Fun → Made → Type 0
-Making t packed high work work' f r = Makes t (levels packed) (lows packed) high (heads_in work') (links_in work') f r × (memo_in work' ≡ memo_in work)
+-- its caller counts
+abbrev pub Makes : Held → Held → Fun → Result ℕ Full → Type 0
+Makes h h' f (Ok i) = MadeAt (held_table h) (held_table h') f i × Serves h h'
+Makes h h' f (Err e) = Lacking h h' f

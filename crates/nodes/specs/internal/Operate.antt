@@ -1,50 +1,77 @@
--- The operations on entries, by number. Assumes nothing.
-use Rattle.std.specs.Prelude.{◌≡◌, ◌⊎◌, Bool, true, false, cond, ◌&&◌, List, ℕ, zero, suc, ◌+◌, ◌-◌, ◌*◌, ◌/◌, ◌%◌, ◌≤◌, ◌<◌, min, eqb, ltb, length, get_or, set}
-use Rattle.nodes.specs.declared.unique.Found.{Found}
-use Rattle.nodes.specs.declared.unique.Found.TheVariants as found
-use Rattle.nodes.specs.declared.unique.Made.{Made}
-use Rattle.nodes.specs.declared.unique.Made.TheVariants as made
-use Rattle.nodes.specs.declared.apply.Settled.{Settled}
-use Rattle.nodes.specs.declared.apply.Settled.TheVariants as settled
+-- The operations on entries, and the memory of their results. Assumes nothing.
+use Rattle.std.specs.Prelude.{◌≡◌, ◌⊎◌, Bool, true, false, cond, ◌&&◌, List, ℕ, zero, suc, ◌+◌, ◌-◌, ◌*◌, ◌/◌, ◌%◌, ◌≤◌, ◌<◌, min, eqb, ltb, length, get_or, set, Option, Some, None}
+use Rattle.nodes.specs.declared.apply.Operation.{Operation}
+use Rattle.nodes.specs.declared.apply.Operation.TheVariants.{And, Or, Not, Fix}
 use Rattle.nodes.specs.declared.apply.Split.{Split}
-use Rattle.nodes.specs.Fun.{Fun, both, either, negated, fixed, exists}
-use Rattle.nodes.specs.Table.{Table, table, last_level, constant_level, max_length, level_of, den, WellFormed}
-use Rattle.nodes.specs.internal.Growth.{Built, Short}
+use Rattle.nodes.specs.declared.computed.Key.{Key}
+use Rattle.nodes.specs.Fun.{Fun, both, either, negated, fixed, exists, digit}
+use Rattle.nodes.specs.Table.{Table, last_level, constant_level, max_length, level_of, den, WellFormed}
 use Rattle.nodes.specs.internal.Packed.{levels, lows}
 use Rattle.nodes.specs.internal.Parts.{memory_at, links_in, heads_in, memo_in}
 use Rattle.nodes.specs.internal.Index.{Indexed}
-use Rattle.nodes.specs.internal.Make.{MadeAt, MadeFull}
 
--- 0 is ∧, 1 is ∨, 2 is ¬ of the first operand, and 3 + 2 * v + b fixes level v of the first operand to the bit b
-unfoldable pub operation : ℕ → Fun → Fun → Fun
-operation zero f g = both f g
-operation (suc zero) f g = either f g
-operation (suc (suc zero)) f g = negated f
-operation (suc (suc (suc k))) f g = fixed (k / 2) (eqb (k % 2) 1) f
+-- what an operation makes of two functions: ¬ and fixing look at the first alone
+abbrev pub operation : Operation → Fun → Fun → Fun
+operation And f g = both f g
+operation Or f g = either f g
+operation Not f g = negated f
+operation (Fix v b) f g = fixed v b f
 
--- the memory has the operands of ∧ and ∨ by their numbers, and so the other way round
-abbrev pub turns_of : ℕ → ℕ → ℕ → Bool
-turns_of o f g = ltb o 2 && ltb g f
+-- the level that is fixed is one of a node
+abbrev pub IsOperation : Operation → Type 0
+IsOperation And = Unit {0}
+IsOperation Or = Unit {0}
+IsOperation Not = Unit {0}
+IsOperation (Fix v b) = v ≤ last_level
+
+-- its number in the memory of results
+abbrev pub number_of : Operation → ℕ
+number_of And = 0
+number_of Or = 1
+number_of Not = 2
+number_of (Fix v b) = 3 + 2 * v + digit b
+
+-- what a number stands for
+unfoldable pub numbered : ℕ → Fun → Fun → Fun
+numbered zero f g = both f g
+numbered (suc zero) f g = either f g
+numbered (suc (suc zero)) f g = negated f
+numbered (suc (suc (suc k))) f g = fixed (k / 2) (eqb (k % 2) 1) f
 
 -- the last one fixes the last level to 1
 abbrev pub last_operation : ℕ
 last_operation = 4 + 2 * last_level
 
-pub record Operands (t : Table) (o f g : ℕ) : Type 0 where
+-- the memory has the operands of ∧ and ∨ by their numbers, and so the other way round
+abbrev pub turns_of : ℕ → ℕ → ℕ → Bool
+turns_of o f g = ltb o 2 && ltb g f
+
+-- the key of an operation's result
+abbrev pub key_of : ℕ → ℕ → ℕ → Key
+key_of o f g = record { number = o; left = cond (turns_of o f g) g f; right = cond (turns_of o f g) f g }
+
+pub record Operands (t : Table) (o : Operation) (f g : ℕ) : Type 0 where
   pub formed : WellFormed t
-  pub known : o ≤ last_operation
+  pub known : IsOperation o
   pub left : f < t.used
   pub right : g < t.used
 
 -- the answer of h is known from the entries' numbers, or the first is a node
-abbrev pub SettlesBy : (Fun → Fun → Fun) → ℕ → ℕ → Settled → Type 0
-SettlesBy h f g (settled.Is k) = (t : Table) → 2 ≤ t.used → f < t.used → g < t.used → (k < t.used) × (den t k ≡ h (den t f) (den t g))
-SettlesBy h f g settled.Open = 2 ≤ f
+abbrev pub SettlesBy : (Fun → Fun → Fun) → ℕ → ℕ → Option ℕ → Type 0
+SettlesBy h f g (Some k) = (t : Table) → 2 ≤ t.used → f < t.used → g < t.used → (k < t.used) × (den t k ≡ h (den t f) (den t g))
+SettlesBy h f g None = 2 ≤ f
+
+-- where a level is to be fixed, f is above it
+abbrev pub IsAbove : Table → Operation → ℕ → Type 0
+IsAbove t And f = Unit {0}
+IsAbove t Or f = Unit {0}
+IsAbove t Not f = Unit {0}
+IsAbove t (Fix v b) f = level_of t f < v
 
 -- the answer is an entry at hand; or f is a node, and above the level that is to be fixed
-abbrev pub Settles : Table → ℕ → ℕ → ℕ → Settled → Type 0
-Settles t o f g (settled.Is k) = (k < t.used) × (den t k ≡ operation o (den t f) (den t g))
-Settles t o f g settled.Open = (2 ≤ f) × (3 ≤ o → level_of t f < (o - 3) / 2)
+abbrev pub Settles : Table → Operation → ℕ → ℕ → Option ℕ → Type 0
+Settles t o f g (Some k) = (k < t.used) × (den t k ≡ operation o (den t f) (den t g))
+Settles t o f g None = (2 ≤ f) × IsAbove t o f
 
 -- the child of f where f has level v, and f itself where its level is larger
 abbrev pub cofactor_of : List ℕ → List ℕ → ℕ → ℕ → ℕ
@@ -99,7 +126,7 @@ pub record Recalls (t : Table) (o f g r : ℕ) : Type 0 where
   pub left : f < t.used
   pub right : g < t.used
   pub found : r < t.used
-  pub stands : o ≤ last_operation → den t r ≡ operation o (den t f) (den t g)
+  pub stands : o ≤ last_operation → den t r ≡ numbered o (den t f) (den t g)
   pub quantified : last_operation < o → Quantified t (quantified_level o) (quantified_entry o) f g r
 
 abbrev pub Remembered : Table → List ℕ → Type 0
@@ -115,9 +142,9 @@ pub record Holds (memo : List ℕ) (o f g r : ℕ) : Type 0 where
   pub right : get_or memo (4 * slot + 2) 0 ≡ g
   pub result : get_or memo (4 * slot + 3) 0 ≡ r
 
-abbrev pub Recalled : List ℕ → ℕ → ℕ → ℕ → Found → Type 0
-Recalled memo o f g (found.At r) = Holds memo o f g r
-Recalled memo o f g found.Nothing = Unit {0}
+abbrev pub Recalled : List ℕ → Key → Option ℕ → Type 0
+Recalled memo k (Some r) = Holds memo k.number k.left k.right r
+Recalled memo k None = Unit {0}
 
 -- the memory is as it was, or a slot of it has been written
 abbrev pub Stores : List ℕ → ℕ → ℕ → ℕ → ℕ → List ℕ → Type 0
@@ -125,37 +152,29 @@ Stores memo o f g r memo' =
     (memo' ≡ memo)
     ⊎ ((s : ℕ) × (4 * s + 3 < length memo) × (memo' ≡ set (set (set (set memo (4 * s) (o + 1)) (4 * s + 1) f) (4 * s + 2) g) (4 * s + 3) r))
 
--- the last step of an operation: the node is made and its result remembered
-abbrev pub Finishes : Table → List ℕ → List ℕ → List ℕ → List ℕ → List ℕ → List ℕ → List ℕ → Fun → ℕ → ℕ → ℕ → Made → Type 0
-Finishes t level low high head next memo memo' h o f g (made.At i n) =
-    MadeAt t (table level low high n) h i × Indexed (table level low high n) head next × Stores memo o f g i memo'
-Finishes t level low high head next memo memo' h o f g made.Full = MadeFull t level low high h
+-- ---- the work list
+
+-- how many slots the memory has
+abbrev pub slots_in : List ℕ → ℕ
+slots_in work = (length work - memory_at work) / 4
+
+-- the result r of a key is in the memory, or nothing was written; the index is as it was
+pub record Remembers (work : List ℕ) (k : Key) (r : ℕ) (work' : List ℕ) : Type 0 where
+  pub stores : Stores (memo_in work) k.number k.left k.right r (memo_in work')
+  pub heads : heads_in work' ≡ heads_in work
+  pub links : links_in work' ≡ links_in work
 
 -- the lent lists serve the table
 pub record Helped (t : Table) (head next memo : List ℕ) : Type 0 where
   pub indexed : Indexed t head next
   pub remembered : Remembered t memo
 
--- the answer of an operation whose result on the table t is f, and the lists that it leaves
-abbrev pub Operates : Table → List ℕ → List ℕ → List ℕ → List ℕ → List ℕ → List ℕ → Fun → Made → Type 0
-Operates t level low high head next memo f (made.At i n) = Built t (table level low high n) f i × Helped (table level low high n) head next memo
-Operates t level low high head next memo f made.Full = Short t (table level low high (length level)) f
-
--- ---- the same of the lists that a call holds
-
--- how many slots the memory has
-abbrev pub slots_in : List ℕ → ℕ
-slots_in work = (length work - memory_at work) / 4
-
--- the index is as it was
-abbrev pub Keeping : List ℕ → ℕ → ℕ → ℕ → ℕ → List ℕ → Type 0
-Keeping work o f g r work' = Stores (memo_in work) o f g r (memo_in work') × (heads_in work' ≡ heads_in work) × (links_in work' ≡ links_in work)
-
-abbrev pub Finishing : Table → List ℕ → List ℕ → List ℕ → List ℕ → Fun → ℕ → ℕ → ℕ → Made → Type 0
-Finishing t packed high work work' h o f g r = Finishes t (levels packed) (lows packed) high (heads_in work') (links_in work') (memo_in work) (memo_in work') h o f g r
-
 abbrev pub Helping : Table → List ℕ → Type 0
 Helping t work = Helped t (heads_in work) (links_in work) (memo_in work)
 
-abbrev pub Operating : Table → List ℕ → List ℕ → List ℕ → Fun → Made → Type 0
-Operating t packed high work f r = Operates t (levels packed) (lows packed) high (heads_in work) (links_in work) (memo_in work) f r
+-- the function h is the result of a key's operation
+pub record Meant (t : Table) (k : Key) (h : Fun) : Type 0 where
+  pub known : k.number ≤ last_operation
+  pub left : k.left < t.used
+  pub right : k.right < t.used
+  pub stands : h ≡ numbered k.number (den t k.left) (den t k.right)

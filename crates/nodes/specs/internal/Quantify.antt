@@ -1,20 +1,12 @@
 -- ∃ of a level by one recursion, which works out its three functions at a time. Assumes nothing.
-use Rattle.std.specs.Prelude.{◌≡◌, true, false, List, [], ◌∷◌, ℕ, ◌≤◌, ◌<◌, length}
-use Rattle.nodes.specs.declared.unique.Made.{Made}
-use Rattle.nodes.specs.declared.unique.Made.TheVariants as made
+use Rattle.std.specs.Prelude.{◌≡◌, true, false, List, [], ◌∷◌, ℕ, ◌≤◌, ◌<◌, Option, Some, None, Result, Ok, Err}
+use Rattle.nodes.specs.declared.manager.Full.{Full}
 use Rattle.nodes.specs.declared.quantify.Trio.{Trio}
-use Rattle.nodes.specs.declared.quantify.Three.{Three}
-use Rattle.nodes.specs.declared.quantify.Three.TheVariants as three
-use Rattle.nodes.specs.declared.quantify.Held.{Held}
-use Rattle.nodes.specs.declared.quantify.Held.TheVariants as held
 use Rattle.nodes.specs.Fun.{Fun, fixed, exists}
-use Rattle.nodes.specs.Table.{Table, last_level, Entry, WellFormed}
-use Rattle.nodes.specs.internal.Packed.{levels, packed_table}
-use Rattle.nodes.specs.internal.Parts.{memo_in}
-use Rattle.nodes.specs.internal.Index.{Indexing}
-use Rattle.nodes.specs.internal.Make.{Makeable, node_fun}
-use Rattle.nodes.specs.internal.Operate.{Holds, Stores, Helping}
-use Rattle.nodes.specs.internal.Work.{Added, Lacks}
+use Rattle.nodes.specs.Table.{Table, last_level, den, Entry, WellFormed}
+use Rattle.nodes.specs.internal.Make.{Makeable, node_fun, Held, held_table, Serves}
+use Rattle.nodes.specs.internal.Operate.{Holds}
+use Rattle.nodes.specs.internal.Work.{Added, Lacks, Store, Keeps}
 
 -- three functions
 pub record Funs : Type 0 where
@@ -56,33 +48,25 @@ node_funs t v a b = record {
   any = node_fun t v a.any b.any;
 }
 
-abbrev pub RecalledThree : List ℕ → ℕ → Held → Type 0
-RecalledThree memo o (held.At r) = Holds memo o r.zero r.one r.any
-RecalledThree memo o held.Nothing = Unit {0}
+abbrev pub RecalledThree : List ℕ → ℕ → Option Trio → Type 0
+RecalledThree memo o (Some r) = Holds memo o r.zero r.one r.any
+RecalledThree memo o None = Unit {0}
 
--- ---- answers of a call, and the lists that it leaves
+-- the three functions are what ∃v of f's function lists
+pub record MeantThree (t : Table) (v f : ℕ) (h : Funs) : Type 0 where
+  pub in_range : v ≤ last_level
+  pub used : f < t.used
+  pub zero : h.zero ≡ fixed v false (den t f)
+  pub one : h.one ≡ fixed v true (den t f)
+  pub any : h.any ≡ exists v (den t f)
 
--- the table is full, and too short for the functions h
-abbrev pub LacksThree : Table → List ℕ → List ℕ → Funs → Type 0
-LacksThree t packed high h = Lacks t (packed_table packed high (length (levels packed))) (listed h)
+-- ---- what a call ensures, from s to s'
 
-abbrev pub MakingThree : Table → List ℕ → List ℕ → List ℕ → List ℕ → Funs → Three → Type 0
-MakingThree t packed high work work' h (three.At r n) =
-    Trebled t (packed_table packed high n) h r × Indexing (packed_table packed high n) work' × (memo_in work' ≡ memo_in work)
-MakingThree t packed high work work' h three.Full = LacksThree t packed high h
+-- the answer for three functions h: entries that stand for them, or that the table is too short
+abbrev pub Trebles : Table → Table → Funs → Result Trio Full → Type 0
+Trebles t t' h (Ok r) = Trebled t t' h r
+Trebles t t' h (Err e) = Lacks t t' (listed h)
 
-abbrev pub FinishingThree : Table → List ℕ → List ℕ → List ℕ → List ℕ → Funs → ℕ → Three → Type 0
-FinishingThree t packed high work work' h o (three.At r n) =
-    Trebled t (packed_table packed high n) h r × Indexing (packed_table packed high n) work'
-    × Stores (memo_in work) o r.zero r.one r.any (memo_in work')
-FinishingThree t packed high work work' h o three.Full = LacksThree t packed high h
-
-abbrev pub Quantifying : Table → List ℕ → List ℕ → List ℕ → ℕ → Fun → Three → Type 0
-Quantifying t packed high work v F (three.At r n) =
-    Trebled t (packed_table packed high n) (results_of v F) r × Helping (packed_table packed high n) work
-Quantifying t packed high work v F three.Full = LacksThree t packed high (results_of v F)
-
--- the answer of ∃ alone
-abbrev pub any_of : Three → Made
-any_of (three.At r n) = made.At r.any n
-any_of three.Full = made.Full
+pub record Trebling (s s' : Store) (h : Funs) (r : Result Trio Full) : Type 0 where
+  pub kept : Keeps s s'
+  pub answers : Trebles s.table s'.table h r

@@ -1,9 +1,9 @@
 -- How a table begins, and how it is left. Assumes nothing.
-use Rattle.std.specs.Prelude.{◌≡◌, false, List, ℕ, ◌≤◌, ◌<◌, length, get_or}
-use Rattle.nodes.specs.declared.room.Room.{Room}
+use Rattle.std.specs.Prelude.{◌≡◌, List, ℕ, ◌≤◌, ◌<◌, length, get_or}
+use Rattle.std.specs.Borrow.{MutBor}
+use Rattle.nodes.specs.declared.manager.Manager.{Manager}
 use Rattle.nodes.specs.Table.{Table, table, max_length, den, WellFormed}
 use Rattle.nodes.specs.internal.Packed.{packed_table}
-use Rattle.nodes.specs.internal.Work.{Store, Ready}
 
 abbrev pub Clear : List ℕ → Type 0
 Clear s = (k : ℕ) → get_or s k 0 ≡ 0
@@ -14,16 +14,20 @@ pub record Fits (packed high : List ℕ) : Type 0 where
   pub least : 2 ≤ length packed
   pub most : length packed ≤ max_length
 
--- a table of the constants alone, on which calls may be made
-pub record Starts (s : Store) : Type 0 where
-  pub ready : Ready s
-  pub not_full : s.full ≡ false
-  pub constants : s.table.used ≡ 2
+-- a manager of three slices, whose table has the constants alone
+pub record Starts (packed high work : MutBor (List ℕ)) (m : Manager) : Type 0 where
+  pub constants : m.used ≡ 2
+  pub packed_length : length m.packed.now ≡ length packed.now
+  pub high_length : length m.high.now ≡ length high.now
+  pub work_length : length m.work.now ≡ length work.now
+  pub packed_name : m.packed.ghost_name ≡ packed.ghost_name
+  pub high_name : m.high.ghost_name ≡ high.ghost_name
+  pub work_name : m.work.ghost_name ≡ work.ghost_name
 
--- a list as long as the packed one takes the levels; a table that is not full is well formed
-pub record Unpackable (level packed high : List ℕ) (room : Room) : Type 0 where
+-- a list as long as the packed one takes the levels of a table that is well formed
+pub record Unpackable (level packed high : List ℕ) (used : ℕ) : Type 0 where
   pub same_length : length level ≡ length packed
-  pub formed : room.full ≡ false → WellFormed (packed_table packed high room.used)
+  pub formed : WellFormed (packed_table packed high used)
 
 -- the table is left in document 01's three slices: the same entries in use, each standing for what it stood for
 pub record Unpacked (t : Table) (level low high : List ℕ) : Type 0 where
