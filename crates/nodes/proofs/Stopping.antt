@@ -128,12 +128,12 @@ module _ {s : Store} (full : s.full ≡ true) where
 
 -- ---- functions that end early: m is left full, and r is their answer
 
-at_error : (P : Store → ℕ → Type 0) (m : Manager) (r : Result ℕ Full) → IsErr r → P (store m true) 0 → P (leaving m r) (entry_of r)
+pub at_error : (P : Store → ℕ → Type 0) (m : Manager) (r : Result ℕ Full) → IsErr r → P (store m true) 0 → P (leaving m r) (entry_of r)
 at_error P m (Ok i) e x = contrary e refl
 at_error P m (Err d) e x = x
 
 -- a full manager has no entry to answer
-no_entry : {s : Store} (m : Manager) {φ : Formula} {i j : ℕ} → Gives s (store m true) φ i → Gives s (store m true) φ j
+pub no_entry : {s : Store} (m : Manager) {φ : Formula} {i j : ℕ} → Gives s (store m true) φ i → Gives s (store m true) φ j
 no_entry m x = record { does = x.does; stands = λ o. contrary {b = (store m true).full} refl o }
 
 module _ {s : Store} (m : Manager) (r : Result ℕ Full) (e : IsErr r) {i : ℕ} where
