@@ -1,10 +1,10 @@
--- `nodes::find_chained` meets its contract. The loop's invariant is `Chained`. The measure is the entry at hand, since a chain goes to earlier ones.
+-- `nodes::unique::find_chained` meets its contract. The loop's invariant is `Chained`. The measure is the entry at hand, since a chain goes to earlier ones.
 -- Assumes nothing.
 use native.Mathlib.Omega.{arith}
 use Rattle.nodes.proofs.Parting.{levels_length, index_fits}
 use Rattle.nodes.proofs.Holding.{node_there, node_word, work_uncovered, work_start, work_within, work_falls, work_next}
 use Rattle.nodes.proofs.unique.find_chained.Goals as goal
-use Rattle.nodes.proofs.unique.find_chained.Goals.{then-packed-at+else-high-at, else-packed-at}
+use Rattle.nodes.proofs.unique.find_chained.Goals.{else-packed-at-via-then-packed-at+else-high-at, else-packed-at-via-else-packed-at}
 
 pub returns-then-head-eq0 : goal.returns-then-head-eq0
 returns-then-head-eq0 c i h n =
@@ -69,9 +69,9 @@ loop-i-smaller c =
 pub loop-i-preserved : goal.loop-i-preserved
 loop-i-preserved c =
     work_next _ _ _ _ _ c.requires.indexing _ c.loop-i-test.true c.loop-i.invariant
-    (λ n. elim c.if-packed-at.branch [
-      | then-packed-at+else-high-at w ↦ w.if-high-at.false n.high
-      | else-packed-at w ↦ w.if-packed-at.false (node_word _ _ _ _ _ _ _ n)
+    (λ n. elim c.else-packed-at.branch [
+      | else-packed-at-via-then-packed-at+else-high-at w ↦ w.if-high-at.false n.high
+      | else-packed-at-via-else-packed-at w ↦ w.if-packed-at.false (node_word _ _ _ _ _ _ _ n)
     ])
 
 pub returns : goal.returns

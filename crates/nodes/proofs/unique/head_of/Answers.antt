@@ -1,4 +1,4 @@
--- `nodes::head_of` meets its contract. Assumes nothing.
+-- `nodes::unique::unique::head_of` meets its contract. Assumes nothing.
 use mathlib.Core.Path.{ap, ap₂, sym, ◌∙◌}
 use Prim.Native.Nat.{ℕ, ◌+◌}
 use native.Mathlib.Omega.{arith}
@@ -29,5 +29,5 @@ returns c =
         from = λ _. omega (arith, c.covers.ensures);
         to = λ _. omega (arith, c.covers.ensures, c.hashes-n.ensures, c.hash.ensures.1);
       };
-      place = λ _. ap₂ (λ (k h : ℕ). 1 + k + h) c.covers.ensures (c.hash.ensures.0 ∙ ap (hash_of a.v a.lo a.hi) c.hashes-n.ensures);
+      place = λ _. ap₂ (λ (k h : ℕ). 1 + k + h) c.covers.ensures (c.hash.ensures.0 ∙ ap (hash_of a.node.level a.node.low a.node.high) c.hashes-n.ensures);
     }

@@ -1,4 +1,4 @@
--- `nodes::link` meets its contract. Assumes nothing.
+-- `nodes::unique::link` meets its contract. Assumes nothing.
 use mathlib.Core.Path.{subst}
 use Prim.Native.Nat.{ℕ, ◌<◌}
 use native.Mathlib.Omega.{arith}
