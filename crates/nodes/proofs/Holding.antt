@@ -17,11 +17,11 @@ use Rattle.nodes.specs.declared.computed.Key.{Key}
 use Rattle.nodes.specs.Table.{Table, table, max_length}
 use Rattle.nodes.specs.internal.Packed.{packing, levels, lows, packed_table}
 use Rattle.nodes.specs.internal.Parts.{covers, hashes, heads_at, memory_at, links_in, heads_in, memo_in}
-use Rattle.nodes.specs.internal.Index.{hash_of, coverage, Indexed, Indexing, Linked, Linking, Begins}
+use Rattle.nodes.specs.internal.Index.{hash_of, coverage, Indexing, Linked, Linking, InIndex, Begins}
 use Rattle.nodes.specs.internal.Make.{Makeable, IsNode, Finds, node_fun, MadeNew, held, MakesNode, Lacking}
 use Rattle.nodes.specs.internal.Operate.{cofactor_of, slots_in, Holds, Remembers}
 use Rattle.nodes.specs.internal.Work.{is_deeper}
-use Rattle.nodes.proofs.Parting.{packed_level, packed_low, packed_again, levels_length, level_at, low_at, levels_set, lows_set, links_length, heads_length, memo_length, link_at, head_at, memo_at, same_covers, same_hashes, same_memory, links_set_link, heads_set_link, memo_set_link, links_set_head, heads_set_head, memo_set_head, links_set_memo, heads_set_memo, memo_set_memo}
+use Rattle.nodes.proofs.Parting.{index_fits, packed_level, packed_low, packed_again, levels_length, level_at, low_at, levels_set, lows_set, links_length, heads_length, memo_length, link_at, head_at, memo_at, same_covers, same_hashes, same_memory, links_set_link, heads_set_link, memo_set_link, links_set_head, heads_set_head, memo_set_head, links_set_memo, heads_set_memo, memo_set_memo}
 use Rattle.nodes.proofs.Indexing.{coverage_none, coverage_some, coverage_le, Chained, chained_start, chained_next, chain_falls, chain_within, linked_none, linked_at}
 use Rattle.nodes.proofs.Making.{absent, made_new, made_linked}
 
@@ -65,6 +65,9 @@ module _ (work : List ℕ) where
 
   pub work_coverage : (hashes work ≡ 0 → ⊥) → coverage (heads_in work) (links_in work) ≡ covers work
   work_coverage n = coverage_some (heads_in work) (links_in work) (λ e. n (sym (heads_length work) ∙ e)) ∙ links_length work
+
+pub head_inside : (work : List ℕ) (head : ℕ) → InIndex work head → (head ≡ 0 → ⊥) → head < length work
+head_inside work head x some = let t = x.to (omega arith) in let f = index_fits work in omega arith
 
 -- the hash of a node whose chain begins at a head is that of a head
 hash_below : (work : List ℕ) (v lo hi head : ℕ) → 0 < head → Begins work v lo hi head → hash_of v lo hi (hashes work) < hashes work
@@ -228,7 +231,7 @@ module _ (packed high work : List ℕ) (used v lo hi : ℕ) (ok : Makeable (pack
   abbrev here : Table
   here = packed_table packed high used
 
-  pub child_small : lo < max_length
+  child_small : lo < max_length
   child_small = let a = ok.low_used in let wf = ok.formed in let b = wf.room in let c = wf.most in omega arith
 
   module _ (differ : lo ≡ hi → ⊥) (none : Finds here v lo hi None) where

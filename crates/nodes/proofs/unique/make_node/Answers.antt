@@ -3,7 +3,7 @@ use mathlib.Core.Path.{refl}
 use native.Mathlib.Omega.{arith}
 use Rattle.nodes.proofs.Parting.{levels_length}
 use Rattle.nodes.proofs.Making.{made_same, made_found}
-use Rattle.nodes.proofs.Holding.{child_small, packed_new, packed_full}
+use Rattle.nodes.proofs.Holding.{packed_new, packed_full}
 use Rattle.nodes.proofs.unique.make_node.Goals as goal
 
 pub returns-then-node : goal.returns-then-node
