@@ -11,20 +11,19 @@ use native.Mathlib.Omega.{arith}
 use lib.Dec.{ltb}
 use lib.ListN.{length, get_or, set}
 use borrow.Author.Tests.{eq-eqb, ne_eqb, lt-ltb, le-ltb}
-use Rattle.nodes.specs.declared.unique.Made.TheVariants as made
-use Rattle.nodes.specs.declared.unique.MadeNode.TheVariants as node
-use Rattle.nodes.specs.declared.unique.Found.TheVariants as found
-use Rattle.nodes.specs.Fun.{Fun}
-use Rattle.nodes.specs.Table.{Table, max_length}
+use Rattle.std.specs.Prelude.{None, Ok}
+use Rattle.nodes.specs.declared.unique.MadeNode.TheVariants.{New}
+use Rattle.nodes.specs.declared.computed.Key.{Key}
+use Rattle.nodes.specs.Table.{Table, table, max_length}
 use Rattle.nodes.specs.internal.Packed.{packing, levels, lows, packed_table}
 use Rattle.nodes.specs.internal.Parts.{covers, hashes, heads_at, memory_at, links_in, heads_in, memo_in}
-use Rattle.nodes.specs.internal.Index.{hash_of, coverage, Indexed, Indexing, Linked, Linking, Begins}
-use Rattle.nodes.specs.internal.Make.{Makeable, IsNode, Finds, node_fun, MakesNode, MakingNode, Making, MadeFull}
-use Rattle.nodes.specs.internal.Operate.{cofactor_of, slots_in, Holds, Stores, Keeping, Finishing}
+use Rattle.nodes.specs.internal.Index.{hash_of, coverage, Indexing, Linked, Linking, InIndex, Begins}
+use Rattle.nodes.specs.internal.Make.{Makeable, IsNode, Finds, node_fun, MadeNew, held, MakesNode, Lacking}
+use Rattle.nodes.specs.internal.Operate.{cofactor_of, slots_in, Holds, Remembers}
 use Rattle.nodes.specs.internal.Work.{is_deeper}
-use Rattle.nodes.proofs.Parting.{packed_level, packed_low, packed_again, levels_length, level_at, low_at, levels_set, lows_set, links_length, heads_length, memo_length, link_at, head_at, memo_at, same_covers, same_hashes, same_memory, links_set_link, heads_set_link, memo_set_link, links_set_head, heads_set_head, memo_set_head, links_set_memo, heads_set_memo, memo_set_memo}
+use Rattle.nodes.proofs.Parting.{index_fits, packed_level, packed_low, packed_again, levels_length, level_at, low_at, levels_set, lows_set, links_length, heads_length, memo_length, link_at, head_at, memo_at, same_covers, same_hashes, same_memory, links_set_link, heads_set_link, memo_set_link, links_set_head, heads_set_head, memo_set_head, links_set_memo, heads_set_memo, memo_set_memo}
 use Rattle.nodes.proofs.Indexing.{coverage_none, coverage_some, coverage_le, Chained, chained_start, chained_next, chain_falls, chain_within, linked_none, linked_at}
-use Rattle.nodes.proofs.Making.{absent, made_new, made_linked, made_full}
+use Rattle.nodes.proofs.Making.{absent, made_new, made_linked}
 
 -- ---- entries
 
@@ -66,6 +65,9 @@ module _ (work : List ℕ) where
 
   pub work_coverage : (hashes work ≡ 0 → ⊥) → coverage (heads_in work) (links_in work) ≡ covers work
   work_coverage n = coverage_some (heads_in work) (links_in work) (λ e. n (sym (heads_length work) ∙ e)) ∙ links_length work
+
+pub head_inside : (work : List ℕ) (head : ℕ) → InIndex work head → (head ≡ 0 → ⊥) → head < length work
+head_inside work head x some = let t = x.to (omega arith) in let f = index_fits work in omega arith
 
 -- the hash of a node whose chain begins at a head is that of a head
 hash_below : (work : List ℕ) (v lo hi head : ℕ) → 0 < head → Begins work v lo hi head → hash_of v lo hi (hashes work) < hashes work
@@ -216,43 +218,37 @@ module _ (work : List ℕ) (m : ℕ) (begins : m ≡ memory_at work) (o f g r s 
       ∙ links_set_memo w₁ m m₁ (slot + 1) (4 * s + 1) f (omega arith)
       ∙ links_set_memo work m (sym begins) slot (4 * s) (o + 1) refl
 
-  pub work_keeps : Keeping work o f g r (set (set (set (set work slot (o + 1)) (slot + 1) f) (slot + 2) g) (slot + 3) r)
+  pub work_keeps : Remembers work (record { number = o; left = f; right = g }) r (set (set (set (set work slot (o + 1)) (slot + 1) f) (slot + 2) g) (slot + 3) r)
   unfolding w₁ w₂ w₃
-  work_keeps = (inr (s, fits, memo_after), heads_after, links_after)
+  work_keeps = record { stores = inr (s, fits, memo_after); heads = heads_after; links = links_after }
 
-pub work_kept : (work : List ℕ) (o f g r : ℕ) → Keeping work o f g r work
-work_kept work o f g r = (inl refl, refl, refl)
+pub work_kept : (work : List ℕ) (k : Key) (r : ℕ) → Remembers work k r work
+work_kept work k r = record { stores = inl refl; heads = refl; links = refl }
 
 -- ---- a node that is made
 
-module _ (packed high : List ℕ) (used v lo hi : ℕ) (ok : Makeable (packed_table packed high used) v lo hi) where
+module _ (packed high work : List ℕ) (used v lo hi : ℕ) (ok : Makeable (packed_table packed high used) v lo hi) where
   abbrev here : Table
   here = packed_table packed high used
 
-  pub child_small : lo < max_length
+  child_small : lo < max_length
   child_small = let a = ok.low_used in let wf = ok.formed in let b = wf.room in let c = wf.most in omega arith
 
-  module _ (differ : lo ≡ hi → ⊥) (none : Finds here v lo hi found.Nothing) where
-    pub packed_new : (work work' : List ℕ) → used < length packed → Indexing here work → Linking work used v lo hi work'
-        → MakingNode here (set packed used (packing v lo)) (set high used hi) work work' (node_fun here v lo hi) (node.New used)
-    packed_new work work' room index link =
-        let inside : used < length (levels packed) = subst (λ (n : ℕ). used < n) (sym (levels_length packed)) room in (
-          subst₂ (λ (level low : List ℕ). MakesNode here level low (set high used hi) (heads_in work') (links_in work') (node_fun here v lo hi) (node.New used))
-              (sym (levels_set packed used v lo child_small)) (sym (lows_set packed used v lo child_small)) (
-                record { absent = absent here v lo hi ok differ none; made = made_new here v lo hi ok differ none inside },
-                made_linked here v lo hi ok differ none inside (heads_in work) (links_in work) (heads_in work') (links_in work') index link.0,
-              ),
-          link.1,
-        )
+  module _ (differ : lo ≡ hi → ⊥) (none : Finds here v lo hi None) where
+    pub packed_new : (work' : List ℕ) → used < length packed → Indexing here work → Linking work used v lo hi work'
+        → MakesNode (held packed high work used) (set packed used (packing v lo)) (set high used hi) work' (node_fun here v lo hi) (Ok (New used))
+    packed_new work' room index link =
+        let inside : used < length (levels packed) = subst (λ (n : ℕ). used < n) (sym (levels_length packed)) room in
+        let made = subst₂ (λ (level low : List ℕ). let t = table level low (set high used hi) (used + 1) in MadeNew here t (node_fun here v lo hi) used × Indexing t work')
+            (sym (levels_set packed used v lo child_small)) (sym (lows_set packed used v lo child_small)) (
+              record { absent = absent here v lo hi ok differ none; made = made_new here v lo hi ok differ none inside },
+              made_linked here v lo hi ok differ none inside (heads_in work) (links_in work) (heads_in work') (links_in work') index link.0,
+            ) in
+        (made.0, record { indexing = made.1; memo = link.1 })
 
-    pub packed_full : length packed ≤ used → MadeFull here (levels packed) (lows packed) high (node_fun here v lo hi)
-    packed_full h = made_full here v lo hi ok differ none (subst (λ (n : ℕ). n ≤ used) (sym (levels_length packed)) h)
-
--- a node that is made, and its result remembered
-pub finished : (t : Table) (packed high work work₁ work₂ : List ℕ) (h : Fun) (o f g i n : ℕ)
-    → Making t packed high work work₁ h (made.At i n) → Keeping work₁ o f g i work₂ → Finishing t packed high work work₂ h o f g (made.At i n)
-finished t packed high work work₁ work₂ h o f g i n m k = (
-  m.0.0,
-  subst₂ (Indexed (packed_table packed high n)) (sym k.1) (sym k.2) m.0.1,
-  subst (λ (l : List ℕ). Stores l o f g i (memo_in work₂)) m.1 k.0,
-)
+    pub packed_full : length packed ≤ used → Lacking (held packed high work used) (held packed high work used) (node_fun here v lo hi)
+    packed_full h = record {
+      full = let wf = ok.formed in let n = levels_length packed in omega arith;
+      absent = absent here v lo hi ok differ none;
+      same = refl;
+    }

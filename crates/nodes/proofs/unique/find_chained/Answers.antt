@@ -1,62 +1,32 @@
--- `nodes::find_chained` meets its contract. The loop's invariant is `Chained`. The measure is the entry at hand, since a chain goes to earlier ones.
+-- `nodes::unique::find_chained` meets its contract. The loop's invariant is `Chained`. The measure is the entry at hand, since a chain goes to earlier ones.
 -- Assumes nothing.
 use native.Mathlib.Omega.{arith}
 use Rattle.nodes.proofs.Parting.{levels_length, index_fits}
-use Rattle.nodes.proofs.Holding.{node_there, node_word, work_uncovered, work_start, work_within, work_falls, work_next}
+use Rattle.nodes.proofs.Holding.{node_there, node_word, head_inside, work_uncovered, work_start, work_within, work_falls, work_next}
 use Rattle.nodes.proofs.unique.find_chained.Goals as goal
-use Rattle.nodes.proofs.unique.find_chained.Goals.{then-packed-at+else-high-at, else-packed-at}
+use Rattle.nodes.proofs.unique.find_chained.Goals.{else-packed-at-via-then-packed-at+else-high-at, else-packed-at-via-else-packed-at}
 
 pub returns-then-head-eq0 : goal.returns-then-head-eq0
 returns-then-head-eq0 c i h n =
     let e = work_uncovered c.args.work.now (c.requires.begins.in_index.none c.if-head-eq0.true) in omega arith
 
-pub overflow_mul-word : goal.overflow_mul-word
-overflow_mul-word c = omega (arith, c.requires.low_fits)
-
-pub overflow_add-word : goal.overflow_add-word
-overflow_add-word c = omega (arith, c.requires.low_fits)
-
 pub offset_bounds-work-head : goal.offset_bounds-work-head
-offset_bounds-work-head c = omega (arith, index_fits c.args.work.now, c.requires.begins.in_index.to (omega (arith, c.if-head-eq0.false)))
+offset_bounds-work-head c = omega (arith, head_inside _ _ c.requires.begins.in_index c.if-head-eq0.false)
 
 pub bounds-work-head : goal.bounds-work-head
-bounds-work-head c =
-    omega (arith, index_fits c.args.work.now, c.requires.begins.in_index.to (omega (arith, c.if-head-eq0.false)))
+bounds-work-head c = head_inside _ _ c.requires.begins.in_index c.if-head-eq0.false
 
 pub loop-i-init : goal.loop-i-init
 loop-i-init c =
     work_start _ _ _ _ _ c.requires.indexing c.args.head (omega (arith, c.if-head-eq0.false)) c.requires.begins
 
-pub overflow_cast-at : goal.overflow_cast-at
-overflow_cast-at c = omega (arith, c.loop-i.invariant.used)
-
-pub offset_bounds-packed-at : goal.offset_bounds-packed-at
-offset_bounds-packed-at c =
-    omega (arith, c.loop-i.invariant.used, c.requires.well_formed.room, c.requires.well_formed.high_length, levels_length c.args.packed.now)
-
 pub bounds-packed-at : goal.bounds-packed-at
 bounds-packed-at c =
-    omega (arith, c.loop-i.invariant.used, c.requires.well_formed.room, c.requires.well_formed.high_length, levels_length c.args.packed.now)
-
-pub offset_bounds-high-at : goal.offset_bounds-high-at
-offset_bounds-high-at c =
-    omega (arith, c.loop-i.invariant.used, c.requires.well_formed.room, c.requires.well_formed.high_length, levels_length c.args.packed.now)
-
-pub bounds-high-at : goal.bounds-high-at
-bounds-high-at c =
     omega (arith, c.loop-i.invariant.used, c.requires.well_formed.room, c.requires.well_formed.high_length, levels_length c.args.packed.now)
 
 pub returns-then-high-at : goal.returns-then-high-at
 returns-then-high-at c =
     node_there _ _ _ _ _ _ _ c.requires.low_fits c.loop-i-test.true c.loop-i.invariant.used c.if-packed-at.true c.if-high-at.true
-
-pub overflow_add-i : goal.overflow_add-i
-overflow_add-i c =
-    let w = work_within _ _ _ _ _ c.requires.indexing _ c.loop-i-test.true c.loop-i.invariant in omega (arith, index_fits c.args.work.now)
-
-pub offset_bounds-work-at : goal.offset_bounds-work-at
-offset_bounds-work-at c =
-    let w = work_within _ _ _ _ _ c.requires.indexing _ c.loop-i-test.true c.loop-i.invariant in omega (arith, index_fits c.args.work.now)
 
 pub bounds-work-at : goal.bounds-work-at
 bounds-work-at c =
@@ -69,10 +39,7 @@ loop-i-smaller c =
 pub loop-i-preserved : goal.loop-i-preserved
 loop-i-preserved c =
     work_next _ _ _ _ _ c.requires.indexing _ c.loop-i-test.true c.loop-i.invariant
-    (λ n. elim c.if-packed-at.branch [
-      | then-packed-at+else-high-at w ↦ w.if-high-at.false n.high
-      | else-packed-at w ↦ w.if-packed-at.false (node_word _ _ _ _ _ _ _ n)
+    (λ n. elim c.else-packed-at.branch [
+      | else-packed-at-via-then-packed-at+else-high-at w ↦ w.if-high-at.false n.high
+      | else-packed-at-via-else-packed-at w ↦ w.if-packed-at.false (node_word _ _ _ _ _ _ _ n)
     ])
-
-pub returns : goal.returns
-returns c i h n = let two = n.node in c.loop-i.invariant.none i (omega (arith, c.loop-i-test.false)) h n
