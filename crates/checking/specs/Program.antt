@@ -1,10 +1,8 @@
 -- What the program prints of two texts. Assumes nothing.
-use Rattle.std.specs.Prelude.{◌≡◌, List, ℕ, zero, suc, length}
+use Rattle.std.specs.Prelude.{◌≡◌, Ok, Err, List, ℕ, zero, suc, length}
 use Rattle.nodes.specs.Lookup.{Slices}
 use Rattle.verdicts.specs.Bisimulation.{Mode, strong, weak, by_mode}
-use Rattle.verdicts.specs.Contract.{VerdictValues, values_of_verdict, Values, values_of, Compared}
-use Rattle.verdicts.specs.declared.Answer.{Answer}
-use Rattle.verdicts.specs.declared.Answer.TheVariants as answer
+use Rattle.verdicts.specs.Contract.{VerdictValues, values_of_verdict, Values, Answer, refused_values, Compared}
 use Rattle.checking.specs.declared.Line.{Line}
 use Rattle.checking.specs.declared.Line.TheVariants.{Equal, Different, Refused}
 use Rattle.checking.specs.declared.Lines.{Lines}
@@ -31,9 +29,8 @@ refusal_line v = Refused v.number v.side v.line
 
 -- the line of a mode; a refusal of the comparison stands on both
 abbrev pub line_in : Mode → Answer → Line
-line_in m (answer.Answered l r s w nodes) = verdict_line (values_of_verdict (by_mode s w m)) nodes.whole
-line_in m (answer.Full nodes) = refusal_line (values_of (answer.Full nodes))
-line_in m (answer.Refused number side line) = refusal_line (values_of (answer.Refused number side line))
+line_in m (Ok a) = verdict_line (values_of_verdict (by_mode a.strong a.weak m)) a.nodes.whole
+line_in m (Err e) = refusal_line (refused_values e)
 
 -- the lines are those of a comparison of two texts by a limit, with a table of that length; the program's limit is `round_limit`
 pub record Printed (l r : List ℕ) (limit : ℕ) (lines : Lines) : Type 0 where

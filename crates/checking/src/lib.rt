@@ -5,13 +5,12 @@ ghost use Rattle.std.specs.Prelude.{◌≡◌, ◌≤◌, length};
 ghost use Rattle.verdicts.specs.Bisimulation.{strong, weak};
 ghost use Rattle.verdicts.specs.Contract.{values_of_verdict};
 ghost use Rattle.checking.specs.Program.{round_limit, verdict_line, line_in, Printed};
-ghost use Rattle.checking.specs.declared.Line.TheVariants.{Refused};
 
 use std::io::Read;
 use std::rt::Files;
-use std::{fs, io};
+use std::{fmt, fs, io};
+use verdicts::answer::{CompareError, Comparison, Verdict};
 use verdicts::compare::compare;
-use verdicts::{Answer, Verdict};
 
 // The largest text: 64 lines of 255 bytes, two digits a byte, with their 0A.
 const MAX_TEXT: usize = 32704;
@@ -37,12 +36,16 @@ pub struct Lines {
     pub weak: Line,
 }
 
-fn say(rt: &impl Print, text: &[u8]) -> io::Result<()> {
-    rt.write_all(text)
-}
-
-fn number(rt: &impl Print, n: u64) -> io::Result<()> {
-    print!(rt; " {n}")
+impl fmt::Display for Line {
+    fn fmt<W: fmt::Write>(&self, f: &mut fmt::Formatter<W>) -> fmt::Result {
+        match self {
+            Line::Equal { rounds, nodes } => write!(f, "equal {rounds} {nodes}"),
+            Line::Different { rounds, nodes } => write!(f, "different {rounds} {nodes}"),
+            Line::Refused { number, side, line } => {
+                write!(f, "refused {number} {side} {line}")
+            }
+        }
+    }
 }
 
 // One read into buf from `done` on: how many bytes buf then has; all of it where the read fails.
@@ -87,7 +90,7 @@ fn line_of(verdict: Verdict, nodes: u32) -> Line
     ensures { result ≡ verdict_line (values_of_verdict verdict) nodes }
 {
     match verdict {
-        Verdict::Equal { iterate: _, rounds } => Line::Equal { rounds, nodes },
+        Verdict::Equal { rounds, .. } => Line::Equal { rounds, nodes },
         Verdict::Different { rounds } => Line::Different { rounds, nodes },
         Verdict::Spent => Line::Refused {
             number: 9,
@@ -97,33 +100,26 @@ fn line_of(verdict: Verdict, nodes: u32) -> Line
     }
 }
 
-// A refusal of the comparison stands on both lines.
-fn refused_lines(number: u8, side: u8, line: usize) -> Lines
-    ensures { (result.strong ≡ Refused number side line) × (result.weak ≡ Refused number side line) }
-{
-    let s = Line::Refused { number, side, line };
-    let w = Line::Refused { number, side, line };
-    Lines { strong: s, weak: w }
-}
-
-// What both lines say.
-fn lines_of(answer: Answer) -> Lines
+// What both lines say; a refusal of the comparison stands on both.
+fn lines_of(answer: Result<Comparison, CompareError>) -> Lines
     ensures { (result.strong ≡ line_in strong answer) × (result.weak ≡ line_in weak answer) }
 {
     match answer {
-        Answer::Answered {
-            left: _,
-            right: _,
-            strong,
-            weak,
-            nodes,
-        } => {
-            let s = line_of(strong, nodes.whole);
-            let w = line_of(weak, nodes.whole);
-            Lines { strong: s, weak: w }
+        Ok(a) => Lines {
+            strong: line_of(a.strong, a.nodes.whole),
+            weak: line_of(a.weak, a.nodes.whole),
+        },
+        Err(e) => {
+            let line = Line::Refused {
+                number: e.number(),
+                side: e.side(),
+                line: e.line(),
+            };
+            Lines {
+                strong: line,
+                weak: line,
+            }
         }
-        Answer::Full { nodes: _ } => refused_lines(8, 2, 0),
-        Answer::Refused { number, side, line } => refused_lines(number, side, line),
     }
 }
 
@@ -148,40 +144,11 @@ fn compare_texts(left: &[u8], right: &[u8]) -> Lines
     compare_within(left, right, LIMIT)
 }
 
-// Prints the rest of a line: a verdict with its rounds and nodes, or a refusal.
-fn print_line(rt: &impl Print, line: Line) -> io::Result<()> {
-    match line {
-        Line::Equal { rounds, nodes } => {
-            say(rt, b" equal")?;
-            number(rt, rounds)?;
-            number(rt, nodes as u64)?;
-        }
-        Line::Different { rounds, nodes } => {
-            say(rt, b" different")?;
-            number(rt, rounds)?;
-            number(rt, nodes as u64)?;
-        }
-        Line::Refused {
-            number: n,
-            side,
-            line: l,
-        } => {
-            say(rt, b" refused")?;
-            number(rt, n as u64)?;
-            number(rt, side as u64)?;
-            number(rt, l as u64)?;
-        }
-    }
-    say(rt, b"\n")
-}
-
 fn print_lines(rt: &impl Print, lines: Lines) -> io::Result<()> {
     let strong = lines.strong;
     let weak = lines.weak;
-    say(rt, b"strong")?;
-    print_line(rt, strong)?;
-    say(rt, b"weak")?;
-    print_line(rt, weak)
+    println!(rt; "strong {strong}")?;
+    println!(rt; "weak {weak}")
 }
 
 fn print_texts(rt: &impl Print, left: &[u8], right: &[u8]) -> io::Result<()> {
@@ -200,11 +167,11 @@ pub fn run(rt: &(impl Files + Print)) -> io::Result<()> {
     let mut right = [0u8; 32705];
     let n = read_file(rt, "left.hex", &mut left);
     if MAX_TEXT < n {
-        return say(rt, b"no input left\n");
+        return println!(rt; "no input left");
     }
     let m = read_file(rt, "right.hex", &mut right);
     if MAX_TEXT < m {
-        return say(rt, b"no input right\n");
+        return println!(rt; "no input right");
     }
     print_texts(rt, &left[..n], &right[..m])
 }

@@ -3,69 +3,51 @@
 
 mod built;
 
-use nodes::lookup::{Looked, look_up};
+use nodes::lookup::{LookUpError, Point, TableSlices, look_up};
 use std::io;
 
-fn wide(x: u8) -> u64 {
-    x as u64
+// What is looked up, in a line.
+fn at(action: u64, left_now: u64, left_next: u64, right_now: u64, right_next: u64) -> Point {
+    Point {
+        action,
+        left_now,
+        left_next,
+        right_now,
+        right_next,
+    }
 }
 
 // The line of a case.
-fn tell(rt: &impl Print, name: &[u8], answer: Looked) -> io::Result<()> {
+fn tell(rt: &impl Print, name: &[u8], answer: Result<bool, LookUpError>) -> io::Result<()> {
     rt.write_all(name)?;
     match answer {
-        Looked::Value(v) => {
-            let n = wide(v);
-            print!(rt; ": value {n}")?;
-        }
-        Looked::Turned(number) => {
-            let n = wide(number);
-            print!(rt; ": refusal {n}")?;
+        Ok(true) => println!(rt; ": value 1"),
+        Ok(false) => println!(rt; ": value 0"),
+        Err(e) => {
+            let n = e.number();
+            println!(rt; ": refusal {n}")
         }
     }
-    rt.write_all(b"\n")
 }
 
 // A look-up in a table in order: entry 2 is bit 0 of left now, entry 3 that and bit 0 of the action.
-fn good(
-    rt: &impl Print,
-    name: &[u8],
-    root: u64,
-    action: u64,
-    x: u64,
-    x1: u64,
-    y: u64,
-    y1: u64,
-) -> io::Result<()> {
-    let level = [255u8, 255, 6, 0];
-    let low = [0u32, 1, 0, 0];
-    let high = [0u32, 1, 1, 2];
-    tell(
-        rt,
-        name,
-        look_up(&level, &low, &high, root, action, x, x1, y, y1),
-    )
+fn good(rt: &impl Print, name: &[u8], root: u64, point: Point) -> io::Result<()> {
+    let table = TableSlices {
+        level: &[255, 255, 6, 0],
+        low: &[0, 1, 0, 0],
+        high: &[0, 1, 1, 2],
+    };
+    tell(rt, name, look_up(table, root, point))
 }
 
 // A look-up in a table of one node, which is the bit at a level; only one number is not 0.
-fn at_level(
-    rt: &impl Print,
-    name: &[u8],
-    v: u8,
-    action: u64,
-    x: u64,
-    x1: u64,
-    y: u64,
-    y1: u64,
-) -> io::Result<()> {
-    let level = [255u8, 255, v];
-    let low = [0u32, 1, 0];
-    let high = [0u32, 1, 1];
-    tell(
-        rt,
-        name,
-        look_up(&level, &low, &high, 2, action, x, x1, y, y1),
-    )
+fn at_level(rt: &impl Print, name: &[u8], v: u8, point: Point) -> io::Result<()> {
+    let table = TableSlices {
+        level: &[255, 255, v],
+        low: &[0, 1, 0],
+        high: &[0, 1, 1],
+    };
+    tell(rt, name, look_up(table, 2, point))
 }
 
 // A look-up from entry 3 of a table of two nodes: entry 3 of level v has the children lo and hi, entry 2 of level w has child 1.
@@ -79,77 +61,49 @@ fn two(
     down: u32,
     action: u64,
 ) -> io::Result<()> {
-    let level = [255u8, 255, w, v];
-    let low = [0u32, 1, down, lo];
-    let high = [0u32, 1, 1, hi];
-    tell(
-        rt,
-        name,
-        look_up(&level, &low, &high, 3, action, 0, 0, 0, 0),
-    )
+    let table = TableSlices {
+        level: &[255, 255, w, v],
+        low: &[0, 1, down, lo],
+        high: &[0, 1, 1, hi],
+    };
+    tell(rt, name, look_up(table, 3, at(action, 0, 0, 0, 0)))
 }
 
 // A look-up from entry 1 in slices of some lengths.
 fn sized(rt: &impl Print, name: &[u8], level: &[u8], low: &[u32], high: &[u32]) -> io::Result<()> {
-    tell(rt, name, look_up(level, low, high, 1, 0, 0, 0, 0, 0))
+    let table = TableSlices { level, low, high };
+    tell(rt, name, look_up(table, 1, at(0, 0, 0, 0, 0)))
 }
 
 fn roots(rt: &impl Print) -> io::Result<()> {
-    good(rt, b"entry 0", 0, 0, 0, 0, 0, 0)?;
-    good(rt, b"entry 1", 1, 0, 0, 0, 0, 0)?;
-    good(rt, b"entry 2, left now even", 2, 0, 2, 0, 0, 0)?;
-    good(rt, b"entry 2, left now odd", 2, 0, 3, 0, 0, 0)?;
-    good(rt, b"entry 3, action even", 3, 62, 1, 0, 0, 0)?;
-    good(rt, b"entry 3, action odd", 3, 63, 1, 0, 0, 0)?;
-    good(rt, b"entry 4, beyond the slices", 4, 0, 0, 0, 0, 0)?;
-    good(rt, b"entry 2^64 - 1", 18446744073709551615, 0, 0, 0, 0, 0)
+    good(rt, b"entry 0", 0, at(0, 0, 0, 0, 0))?;
+    good(rt, b"entry 1", 1, at(0, 0, 0, 0, 0))?;
+    good(rt, b"entry 2, left now even", 2, at(0, 2, 0, 0, 0))?;
+    good(rt, b"entry 2, left now odd", 2, at(0, 3, 0, 0, 0))?;
+    good(rt, b"entry 3, action even", 3, at(62, 1, 0, 0, 0))?;
+    good(rt, b"entry 3, action odd", 3, at(63, 1, 0, 0, 0))?;
+    good(rt, b"entry 4, beyond the slices", 4, at(0, 0, 0, 0, 0))?;
+    good(rt, b"entry 2^64 - 1", 18446744073709551615, at(0, 0, 0, 0, 0))
 }
 
 fn numbers(rt: &impl Print) -> io::Result<()> {
-    good(rt, b"action 64", 1, 64, 0, 0, 0, 0)?;
-    good(rt, b"action 2^64 - 1", 1, 18446744073709551615, 0, 0, 0, 0)?;
-    good(
-        rt,
-        b"codes 2^20 - 1",
-        3,
-        63,
-        1048575,
-        1048575,
-        1048575,
-        1048575,
-    )?;
-    good(
-        rt,
-        b"codes 2^24 - 1",
-        3,
-        63,
-        16777215,
-        16777215,
-        16777215,
-        16777215,
-    )?;
-    good(
-        rt,
-        b"right next 2^64 - 1",
-        1,
-        0,
-        0,
-        0,
-        0,
-        18446744073709551615,
-    )
+    good(rt, b"action 64", 1, at(64, 0, 0, 0, 0))?;
+    good(rt, b"action 2^64 - 1", 1, at(18446744073709551615, 0, 0, 0, 0))?;
+    good(rt, b"codes 2^20 - 1", 3, at(63, 1048575, 1048575, 1048575, 1048575))?;
+    good(rt, b"codes 2^24 - 1", 3, at(63, 16777215, 16777215, 16777215, 16777215))?;
+    good(rt, b"right next 2^64 - 1", 1, at(0, 0, 0, 0, 18446744073709551615))
 }
 
 // A code in each of the four places, from a root.
 fn each_place(rt: &impl Print, name: &[u8], root: u64, code: u64) -> io::Result<()> {
     rt.write_all(b"left now ")?;
-    good(rt, name, root, 0, code, 0, 0, 0)?;
+    good(rt, name, root, at(0, code, 0, 0, 0))?;
     rt.write_all(b"left next ")?;
-    good(rt, name, root, 0, 0, code, 0, 0)?;
+    good(rt, name, root, at(0, 0, code, 0, 0))?;
     rt.write_all(b"right now ")?;
-    good(rt, name, root, 0, 0, 0, code, 0)?;
+    good(rt, name, root, at(0, 0, 0, code, 0))?;
     rt.write_all(b"right next ")?;
-    good(rt, name, root, 0, 0, 0, 0, code)
+    good(rt, name, root, at(0, 0, 0, 0, code))
 }
 
 fn codes(rt: &impl Print) -> io::Result<()> {
@@ -165,75 +119,30 @@ fn codes(rt: &impl Print) -> io::Result<()> {
 }
 
 fn levels(rt: &impl Print) -> io::Result<()> {
-    at_level(rt, b"level 5, action 32", 5, 32, 0, 0, 0, 0)?;
-    at_level(rt, b"level 6, left now 1", 6, 0, 1, 0, 0, 0)?;
-    at_level(rt, b"level 7, left next 1", 7, 0, 0, 1, 0, 0)?;
-    at_level(
-        rt,
-        b"level 8, a middle bit",
-        8,
-        63,
-        16777215,
-        16777215,
-        16777215,
-        16777215,
-    )?;
-    at_level(rt, b"level 9, right now 1", 9, 0, 0, 0, 1, 0)?;
-    at_level(rt, b"level 10, right next 1", 10, 0, 0, 0, 0, 1)?;
-    at_level(rt, b"level 10, right next 2", 10, 0, 0, 0, 0, 2)?;
-    at_level(
-        rt,
-        b"level 11, a middle bit",
-        11,
-        63,
-        16777215,
-        16777215,
-        16777215,
-        16777215,
-    )
+    at_level(rt, b"level 5, action 32", 5, at(32, 0, 0, 0, 0))?;
+    at_level(rt, b"level 6, left now 1", 6, at(0, 1, 0, 0, 0))?;
+    at_level(rt, b"level 7, left next 1", 7, at(0, 0, 1, 0, 0))?;
+    at_level(rt, b"level 8, a middle bit", 8, at(63, 16777215, 16777215, 16777215, 16777215))?;
+    at_level(rt, b"level 9, right now 1", 9, at(0, 0, 0, 1, 0))?;
+    at_level(rt, b"level 10, right next 1", 10, at(0, 0, 0, 0, 1))?;
+    at_level(rt, b"level 10, right next 2", 10, at(0, 0, 0, 0, 2))?;
+    at_level(rt, b"level 11, a middle bit", 11, at(63, 16777215, 16777215, 16777215, 16777215))
 }
 
 fn last_levels(rt: &impl Print) -> io::Result<()> {
-    at_level(rt, b"level 120, left now 2^19", 120, 0, 524288, 0, 0, 0)?;
-    at_level(rt, b"level 124, right next 2^19", 124, 0, 0, 0, 0, 524288)?;
-    at_level(
-        rt,
-        b"level 125, a middle bit",
-        125,
-        63,
-        16777215,
-        16777215,
-        16777215,
-        16777215,
-    )?;
-    at_level(rt, b"level 126, left now 2^20", 126, 0, 1048576, 0, 0, 0)?;
-    at_level(
-        rt,
-        b"level 126, left now 2^20 - 1",
-        126,
-        0,
-        1048575,
-        0,
-        0,
-        0,
-    )?;
-    at_level(rt, b"level 144, left now 2^23", 144, 0, 8388608, 0, 0, 0)?;
-    at_level(rt, b"level 145, left next 2^23", 145, 0, 0, 8388608, 0, 0)?;
-    at_level(rt, b"level 147, right now 2^23", 147, 0, 0, 0, 8388608, 0)?;
-    at_level(rt, b"level 148, right next 2^23", 148, 0, 0, 0, 0, 8388608)?;
-    at_level(
-        rt,
-        b"level 149, a middle bit",
-        149,
-        63,
-        16777215,
-        16777215,
-        16777215,
-        16777215,
-    )?;
-    at_level(rt, b"level 150", 150, 0, 0, 0, 0, 0)?;
-    at_level(rt, b"level 254", 254, 0, 0, 0, 0, 0)?;
-    at_level(rt, b"level 255", 255, 0, 0, 0, 0, 0)
+    at_level(rt, b"level 120, left now 2^19", 120, at(0, 524288, 0, 0, 0))?;
+    at_level(rt, b"level 124, right next 2^19", 124, at(0, 0, 0, 0, 524288))?;
+    at_level(rt, b"level 125, a middle bit", 125, at(63, 16777215, 16777215, 16777215, 16777215))?;
+    at_level(rt, b"level 126, left now 2^20", 126, at(0, 1048576, 0, 0, 0))?;
+    at_level(rt, b"level 126, left now 2^20 - 1", 126, at(0, 1048575, 0, 0, 0))?;
+    at_level(rt, b"level 144, left now 2^23", 144, at(0, 8388608, 0, 0, 0))?;
+    at_level(rt, b"level 145, left next 2^23", 145, at(0, 0, 8388608, 0, 0))?;
+    at_level(rt, b"level 147, right now 2^23", 147, at(0, 0, 0, 8388608, 0))?;
+    at_level(rt, b"level 148, right next 2^23", 148, at(0, 0, 0, 0, 8388608))?;
+    at_level(rt, b"level 149, a middle bit", 149, at(63, 16777215, 16777215, 16777215, 16777215))?;
+    at_level(rt, b"level 150", 150, at(0, 0, 0, 0, 0))?;
+    at_level(rt, b"level 254", 254, at(0, 0, 0, 0, 0))?;
+    at_level(rt, b"level 255", 255, at(0, 0, 0, 0, 0))
 }
 
 fn disorder(rt: &impl Print) -> io::Result<()> {

@@ -8,12 +8,12 @@ use Rattle.frames.specs.Summary.{line_bits, line_uses, line_states}
 use Rattle.frames.specs.Text.{read_text}
 use Rattle.frames.specs.declared.summary.Summary.{Summary}
 use Rattle.frames.specs.declared.text.TextError.{TextError}
-use Rattle.frames.specs.Numbers.{refusal_number}
 use Rattle.std.proofs.Common.{Result, Ok, Err}
 use Rattle.frames.proofs.Accepting.{lines_counted, lines_some, bits_entry, uses_entry, states_entry, model_last}
 use Rattle.seipolku.specs.Exported.{six, refusal_words, read_kind, model_words, Described}
-use Rattle.verdicts.specs.Contract.{values_of}
-use Rattle.verdicts.specs.declared.Answer.TheVariants.{Refused}
+use Rattle.verdicts.specs.Contract.{refused_values}
+use Rattle.verdicts.specs.declared.answer.CompareError.TheVariants.{Text}
+use Rattle.verdicts.specs.declared.answer.Side.TheVariants.{Left}
 
 -- the words that a summary gives for its last line
 abbrev pub summary_words : List ℕ → Summary → List ℕ
@@ -32,7 +32,7 @@ described_by t words words' returned r e many kind same =
 
 -- a refused text
 pub described_refused : (t words words' : List ℕ) (e : TextError) → read_text t ≡ Err e → 6 ≤ length words
-    → words' ≡ refusal_words words (values_of (Refused (refusal_number e.refusal) 0 e.line)) → Described t words words' 2
+    → words' ≡ refusal_words words (refused_values (Text Left e.refusal e.line)) → Described t words words' 2
 described_refused t words words' e reads many same = described_by t words words' 2 (Err e) reads many refl same
 
 -- an accepted one: the summary's last entries are those of its model

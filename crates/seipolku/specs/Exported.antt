@@ -1,24 +1,22 @@
 -- What the exported functions answer: numbers for C, and the words of an answer. Assumes nothing.
-use Rattle.std.specs.Prelude.{◌≡◌, Result, Ok, Err, List, [], ◌∷◌, ℕ, ◌+◌, ◌≤◌, ◌<◌, length, set}
+use Rattle.std.specs.Prelude.{◌≡◌, Bool, Result, Ok, Err, List, [], ◌∷◌, ℕ, ◌+◌, ◌≤◌, ◌<◌, length, set}
 use Rattle.frames.specs.Line.{lines_of}
 use Rattle.frames.specs.Text.{read_text}
 use Rattle.frames.specs.Process.{width, leaves, state_count, model_of}
-use Rattle.frames.specs.Numbers.{refusal_number}
 use Rattle.frames.specs.declared.summary.Summary.{Summary}
 use Rattle.frames.specs.declared.text.TextError.{TextError}
 use Rattle.nodes.specs.Lookup.{Slices, number_of as looked_number, values_of as looked_values}
-use Rattle.nodes.specs.declared.lookup.Looked.{Looked}
+use Rattle.nodes.specs.declared.lookup.LookUpError.{LookUpError}
 use Rattle.verdicts.specs.Bisimulation.{strong, weak}
-use Rattle.verdicts.specs.Contract.{Values, values_of, Compared}
-use Rattle.verdicts.specs.declared.Answer.{Answer}
-use Rattle.verdicts.specs.declared.Answer.TheVariants.{Answered, Full, Refused}
-use Rattle.verdicts.specs.declared.Nodes.{Nodes}
+use Rattle.verdicts.specs.Contract.{Values, Answer, refused_values, values_of, Compared}
+use Rattle.verdicts.specs.declared.answer.CompareError.TheVariants.{Text}
+use Rattle.verdicts.specs.declared.answer.Nodes.{Nodes}
+use Rattle.verdicts.specs.declared.answer.Side.TheVariants.{Left}
 
 -- 0: the comparison is answered, 2: it is refused
 abbrev pub kind_of : Answer → ℕ
-kind_of (Answered l r s w nodes) = 0
-kind_of (Full nodes) = 2
-kind_of (Refused number side line) = 2
+kind_of (Ok a) = 0
+kind_of (Err e) = 2
 
 -- the list with six words from a place on
 abbrev pub six : List ℕ → (at a b c d e f : ℕ) → List ℕ
@@ -44,9 +42,8 @@ refusal_twelve words v = last_words (refusal_words words v) 0 0 v.nodes
 
 -- the words of an answer or refusal, by the documents' number and values; those past the twelfth stay
 abbrev pub written : List ℕ → Answer → List ℕ
-written words (Answered l r s w nodes) = answer_words words (values_of (Answered l r s w nodes))
-written words (Full nodes) = refusal_twelve words (values_of (Full nodes))
-written words (Refused number side line) = refusal_twelve words (values_of (Refused number side line))
+written words (Ok a) = answer_words words (values_of (Ok a))
+written words (Err e) = refusal_twelve words (refused_values e)
 
 -- The contract of the exported comparison. With fewer than twelve words for the answer it returns 3 and touches nothing. The work slice is free
 -- afterwards.
@@ -59,7 +56,7 @@ abbrev pub first_of : List ℕ → ℕ → ℕ
 first_of [] other = other
 first_of (v ∷ vs) other = v
 
-abbrev pub numbered : Looked → ℕ
+abbrev pub numbered : Result Bool LookUpError → ℕ
 numbered l = first_of (looked_values l) (looked_number l)
 
 -- ---- what a text's model is
@@ -73,7 +70,7 @@ read_kind (Err e) = 2
 -- the first six of the same refusal by a comparison that has it on the left
 abbrev pub model_words : List ℕ → List ℕ → Result Summary TextError → List ℕ
 model_words words t (Ok s) = six words 0 (width (model_of t)) (length (lines_of t)) (leaves (model_of t)) (state_count (model_of t)) 0 0
-model_words words t (Err e) = refusal_words words (values_of (Refused (refusal_number e.refusal) 0 e.line))
+model_words words t (Err e) = refusal_words words (refused_values (Text Left e.refusal e.line))
 
 -- The contract of the exported call that tells what a text's model is. With fewer than six words for the answer it returns 3 and touches nothing.
 pub record Described (t words words' : List ℕ) (returned : ℕ) : Type 0 where

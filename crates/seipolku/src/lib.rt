@@ -8,9 +8,9 @@ ghost use Rattle.nodes.specs.Lookup.{slices, look_up};
 ghost use Rattle.verdicts.specs.Contract.{values_of_verdict};
 ghost use Rattle.seipolku.specs.Exported.{six, last_words, written, kind_of, Exported, numbered};
 
-use nodes::lookup::{Looked, look_up};
+use nodes::lookup::{Point, TableSlices, look_up};
+use verdicts::answer::{CompareError, Comparison, Nodes, Verdict};
 use verdicts::compare::compare;
-use verdicts::{Answer, Nodes, Verdict};
 
 // The words of an answer.
 const WORDS: usize = 12;
@@ -78,41 +78,39 @@ fn words_of(verdict: Verdict) -> VerdictWords
 }
 
 // Writes an answer's words, and returns 0 answered or 2 refused.
-fn write(answer: Answer, words: &mut [u64]) -> u64
+fn write(answer: Result<Comparison, CompareError>, words: &mut [u64]) -> u64
     requires { 12 ≤ length words.old }
     ensures { (result ≡ kind_of answer) × (words.new ≡ written words.old answer) }
 {
     match answer {
-        Answer::Answered {
-            left,
-            right,
-            strong,
-            weak,
-            nodes,
-        } => {
-            let s = words_of(strong);
-            let w = words_of(weak);
+        Ok(a) => {
+            let s = words_of(a.strong);
+            let w = words_of(a.weak);
             put(
                 words,
                 0,
-                left as u64,
-                right as u64,
+                a.left as u64,
+                a.right as u64,
                 s.number,
                 s.rounds,
                 s.iterate,
                 w.number,
             );
-            put_nodes(words, w.rounds, w.iterate, nodes);
+            put_nodes(words, w.rounds, w.iterate, a.nodes);
             0
         }
-        Answer::Full { nodes } => {
-            put(words, 0, 8, 2, 0, 0, 0, 0);
-            put_nodes(words, 0, 0, nodes);
-            2
-        }
-        Answer::Refused { number, side, line } => {
-            put(words, 0, number as u64, side as u64, line as u64, 0, 0, 0);
-            put(words, 6, 0, 0, 0, 0, 0, 0);
+        Err(e) => {
+            put(
+                words,
+                0,
+                e.number() as u64,
+                e.side() as u64,
+                e.line() as u64,
+                0,
+                0,
+                0,
+            );
+            put_nodes(words, 0, 0, e.nodes());
             2
         }
     }
@@ -154,11 +152,15 @@ pub extern "C" fn seipolku_look_up(
 ) -> u64
     ensures { result ≡ numbered (look_up (slices level.now low.now high.now) root action left_now left_next right_now right_next) }
 {
-    let l = look_up(
-        level, low, high, root, action, left_now, left_next, right_now, right_next,
-    );
-    match l {
-        Looked::Value(v) => v as u64,
-        Looked::Turned(number) => number as u64,
+    let point = Point {
+        action,
+        left_now,
+        left_next,
+        right_now,
+        right_next,
+    };
+    match look_up(TableSlices { level, low, high }, root, point) {
+        Ok(value) => value as u64,
+        Err(e) => e.number() as u64,
     }
 }

@@ -3,97 +3,71 @@
 // the independent program.
 #![tactic(auto)]
 
-use nodes::lookup::{Looked, look_up};
+use nodes::lookup::{Point, TableSlices, look_up};
 use std::io;
+use verdicts::answer::Verdict;
 use verdicts::compare::compare;
-use verdicts::{Answer, Verdict};
 
-fn say(rt: &impl Print, text: &[u8]) -> io::Result<()> {
-    rt.write_all(text)
-}
-
-fn number(rt: &impl Print, n: u64) -> io::Result<()> {
-    print!(rt; "{n}")
+// A table, with the roots of the relation and of the last strong iterate.
+#[derive(Clone, Copy)]
+struct Shown<'a> {
+    table: TableSlices<'a>,
+    relation: u64,
+    iterate: u64,
 }
 
 // Whether a look-up gives 1.
-fn holds(
-    level: &[u8],
-    low: &[u32],
-    high: &[u32],
-    root: u64,
-    action: u64,
-    x: u64,
-    x1: u64,
-    y: u64,
-) -> bool {
-    match look_up(level, low, high, root, action, x, x1, y, 0) {
-        Looked::Value(v) => v == 1,
-        Looked::Turned(_) => false,
-    }
+fn holds(table: TableSlices, root: u64, point: Point) -> bool {
+    look_up(table, root, point).unwrap_or(false)
 }
 
-fn print_step(rt: &impl Print, x: u64, action: u64, y: u64) -> io::Result<()> {
-    number(rt, x)?;
-    say(rt, b" ")?;
-    number(rt, action)?;
-    say(rt, b" ")?;
-    number(rt, y)?;
-    say(rt, b"\n")
+// Whether the relation has a step.
+fn has_step(shown: Shown, x: u64, action: u64, y: u64) -> bool {
+    let point = Point {
+        action,
+        left_now: x,
+        left_next: y,
+        right_now: 0,
+        right_next: 0,
+    };
+    holds(shown.table, shown.relation, point)
+}
+
+// Whether a code is a state's.
+fn is_state(shown: Shown, x: u64) -> bool {
+    let point = Point {
+        action: 0,
+        left_now: x,
+        left_next: 0,
+        right_now: x,
+        right_next: 0,
+    };
+    holds(shown.table, shown.iterate, point)
 }
 
 // The steps by an action from x to the codes below n.
-fn steps_by(
-    rt: &impl Print,
-    level: &[u8],
-    low: &[u32],
-    high: &[u32],
-    relation: u64,
-    iterate: u64,
-    x: u64,
-    action: u64,
-    n: u64,
-) -> io::Result<()> {
+fn steps_by(rt: &impl Print, shown: Shown, x: u64, action: u64, n: u64) -> io::Result<()> {
     for y in 0..n {
-        if holds(level, low, high, iterate, 0, y, 0, y) {
-            if holds(level, low, high, relation, action, x, y, 0) {
-                print_step(rt, x, action, y)?;
-            }
+        if is_state(shown, y) && has_step(shown, x, action, y) {
+            println!(rt; "{x} {action} {y}")?;
         }
     }
     Ok(())
 }
 
 // The steps from x.
-fn steps_from(
-    rt: &impl Print,
-    level: &[u8],
-    low: &[u32],
-    high: &[u32],
-    relation: u64,
-    iterate: u64,
-    x: u64,
-    n: u64,
-) -> io::Result<()> {
+fn steps_from(rt: &impl Print, shown: Shown, x: u64, n: u64) -> io::Result<()> {
     for action in 0..64 {
-        steps_by(rt, level, low, high, relation, iterate, x, action, n)?;
+        steps_by(rt, shown, x, action, n)?;
     }
     Ok(())
 }
 
 // The steps from the codes below n that are states.
-fn print_steps(
-    rt: &impl Print,
-    level: &[u8],
-    low: &[u32],
-    high: &[u32],
-    relation: u64,
-    iterate: u64,
-    n: u64,
-) -> io::Result<()> {
+fn print_steps(rt: &impl Print, shown: Shown, n: u64) -> io::Result<()> {
     for x in 0..n {
-        if holds(level, low, high, iterate, 0, x, 0, x) {
-            steps_from(rt, level, low, high, relation, iterate, x, n)?;
+        if is_state(shown, x) {
+            steps_from(rt, shown, x, n)?;
         }
     }
     Ok(())
@@ -101,23 +75,26 @@ fn print_steps(
 
 // A model of so many codes.
 fn show(rt: &impl Print, name: &[u8], text: &[u8], n: u64) -> io::Result<()> {
-    say(rt, name)?;
-    say(rt, b"\n")?;
+    rt.write_all(name)?;
+    rt.write_all(b"\n")?;
     let mut level = [0u8; 16384];
     let mut low = [0u32; 16384];
     let mut high = [0u32; 16384];
     let mut work = [0u32; 65536];
     let answer = compare(text, text, 1000, &mut level, &mut low, &mut high, &mut work);
-    if let Answer::Answered {
-        left,
-        right: _,
-        strong,
-        weak: _,
-        nodes: _,
-    } = answer
-    {
-        if let Verdict::Equal { iterate, rounds: _ } = strong {
-            print_steps(rt, &level, &low, &high, left as u64, iterate as u64, n)?;
+    if let Ok(a) = answer {
+        if let Verdict::Equal { iterate, .. } = a.strong {
+            let table = TableSlices {
+                level: &level,
+                low: &low,
+                high: &high,
+            };
+            let shown = Shown {
+                table,
+                relation: a.left as u64,
+                iterate: iterate as u64,
+            };
+            print_steps(rt, shown, n)?;
         }
     }
     Ok(())
