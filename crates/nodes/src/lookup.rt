@@ -57,6 +57,7 @@ impl fmt::Display for LookUpError {
 }
 
 // The slices of a table are of one length, from 2 to the longest.
+#[tactic(auto, unfolding(crate::specs::Lookup::table_fits))]
 pub fn slices_fit(table: TableSlices) -> bool
     ensures { result ≡ table_fits (slices table.entry.level.now table.entry.low.now table.entry.high.now) }
 {

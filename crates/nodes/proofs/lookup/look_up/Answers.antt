@@ -6,23 +6,25 @@ use Rattle.nodes.proofs.lookup.look_up.Goals as goal
 
 pub returns-then-not-slices_fit : goal.returns-then-not-slices_fit
 returns-then-not-slices_fit c =
-    let a = c.args in
-    look_seven (slices a.level.now a.low.now a.high.now) a.root a.action a.left_now a.left_next a.right_now a.right_next
-    c.slices_fit.ensures (not-true _ c.if-not-slices_fit.true-raw)
+    let t = c.args.table in
+    let p = c.args.p in
+    look_seven (slices t.level.now t.low.now t.high.now) c.args.root p.action p.left_now p.left_next p.right_now p.right_next c.slices_fit.ensures c.if-not-slices_fit.true
 
-pub returns-then-not-values_fit : goal.returns-then-not-values_fit
-returns-then-not-values_fit c =
-    let a = c.args in
-    look_ten (slices a.level.now a.low.now a.high.now) a.root a.action a.left_now a.left_next a.right_now a.right_next
-    c.slices_fit.ensures (not-false _ c.if-not-slices_fit.false-raw) c.values_fit.ensures (not-true _ c.if-not-values_fit.true-raw)
+pub returns-then-not-is_small : goal.returns-then-not-is_small
+returns-then-not-is_small c =
+    let t = c.args.table in
+    let p = c.args.p in
+    look_ten (slices t.level.now t.low.now t.high.now) c.args.root p.action p.left_now p.left_next p.right_now p.right_next
+    c.slices_fit.ensures c.if-not-slices_fit.false c.is_small.ensures c.if-not-is_small.true
 
 pub walk-requires : goal.walk-requires
 walk-requires c =
-    let a = c.args in
-    fit_lengths (slices a.level.now a.low.now a.high.now) c.slices_fit.ensures (not-false _ c.if-not-slices_fit.false-raw)
+    let t = c.args.table in
+    fit_lengths (slices t.level.now t.low.now t.high.now) c.slices_fit.ensures c.if-not-slices_fit.false
 
 pub returns : goal.returns
 returns c =
-    let a = c.args in
-    look_walks (slices a.level.now a.low.now a.high.now) a.root a.action a.left_now a.left_next a.right_now a.right_next
-    c.slices_fit.ensures (not-false _ c.if-not-slices_fit.false-raw) c.values_fit.ensures (not-false _ c.if-not-values_fit.false-raw) c.walk.ensures
+    let t = c.args.table in
+    let p = c.args.p in
+    look_walks (slices t.level.now t.low.now t.high.now) c.args.root p.action p.left_now p.left_next p.right_now p.right_next
+    c.slices_fit.ensures c.if-not-slices_fit.false c.is_small.ensures c.if-not-is_small.false c.walk.ensures
