@@ -1,5 +1,4 @@
 -- `nodes::lookup::look_up` meets its contract: by what the calls ensure. Assumes nothing.
-use borrow.Author.Tests.{not-true, not-false}
 use Rattle.nodes.specs.Lookup.{slices}
 use Rattle.nodes.proofs.Walking.{fit_lengths, look_walks, look_ten, look_seven}
 use Rattle.nodes.proofs.lookup.look_up.Goals as goal

@@ -1,5 +1,5 @@
 -- `nodes::manager::Manager::holds_at_zero` meets its contract. The loop's invariant: entry k has the root's value. The measure is k. Assumes nothing.
-use mathlib.Core.Path.{◌≡◌, refl, sym, ◌∙◌, subst}
+use mathlib.Core.Path.{◌≡◌, sym, ◌∙◌, subst}
 use Prim.Native.Nat.{ℕ, ◌<◌}
 use native.Mathlib.Omega.{arith}
 use borrow.Author.Tests.{lt-ltb}
