@@ -6,33 +6,9 @@ use native.Mathlib.Omega.{arith}
 use lib.ListN.{get_or}
 use Rattle.nodes.specs.Table.{last_level}
 use Rattle.nodes.specs.Lookup.{looked_up, slices}
-use Rattle.nodes.proofs.Walking.{walk_none, walk_end, walk_out, walk_off, walk_on}
+use Rattle.nodes.proofs.Walking.{walk_on}
 use Rattle.nodes.proofs.lookup.walk.Goals as goal
 use Rattle.nodes.proofs.lookup.walk.Goals.{then-bit_at, else-bit_at}
-
-pub returns-then-i-lt2 : goal.returns-then-i-lt2
-returns-then-i-lt2 c =
-    let t = c.args.table in
-    let p = c.args.p in
-    let l = c.loop in
-    sym (walk_end (slices t.level.now t.low.now t.high.now) (looked_up p.action p.left_now p.left_next p.right_now p.right_next) l.from
-    (last_level + 2 - l.counter) l.i (omega arith) c.if-i-lt2.true) ∙ l.invariant
-
-pub returns-then-level-i : goal.returns-then-level-i
-returns-then-level-i c =
-    let t = c.args.table in
-    let p = c.args.p in
-    let l = c.loop in
-    sym (walk_out (slices t.level.now t.low.now t.high.now) (looked_up p.action p.left_now p.left_next p.right_now p.right_next) l.from
-    (last_level + 2 - l.counter) l.i c.if-i-lt2.false c.if-level-i.true) ∙ l.invariant
-
-pub returns-then-v-from : goal.returns-then-v-from
-returns-then-v-from c =
-    let t = c.args.table in
-    let p = c.args.p in
-    let l = c.loop in
-    sym (walk_off (slices t.level.now t.low.now t.high.now) (looked_up p.action p.left_now p.left_next p.right_now p.right_next) l.from
-    (last_level + 2 - l.counter) l.i c.if-i-lt2.false c.if-level-i.false c.then-v-from.either) ∙ l.invariant
 
 pub loop-preserved : goal.loop-preserved
 loop-preserved c =
@@ -42,13 +18,5 @@ loop-preserved c =
     let child : c.if-bit_at.child ≡ cond c.bit_at.result (get_or t.high.now l.i 0) (get_or t.low.now l.i 0) =
     elim c.if-bit_at.branch [ then-bit_at w ↦ rw (w.if-bit_at.true) w.child-is | else-bit_at w ↦ rw (w.if-bit_at.false) w.child-is ] in
     sym (walk_on (slices t.level.now t.low.now t.high.now) (looked_up p.action p.left_now p.left_next p.right_now p.right_next) l.from
-    (last_level + 2 - l.counter) (last_level + 2 - (l.counter + 1)) l.i c.if-bit_at.child (omega arith)
-    c.if-i-lt2.false c.if-level-i.false c.if-v-from.false c.if-v-gt-LAST_LEVEL.false c.bit_at.ensures child) ∙ l.invariant
-
-pub returns : goal.returns
-returns c =
-    let t = c.args.table in
-    let p = c.args.p in
-    let l = c.loop in
-    sym (walk_none (slices t.level.now t.low.now t.high.now) (looked_up p.action p.left_now p.left_next p.right_now p.right_next) l.from
-    (last_level + 2 - l.counter) l.i (omega arith)) ∙ l.invariant
+    (last_level + 2 - l.counter) l.i (omega arith) c.if-i-lt2.false c.if-level-i.false (last_level + 2 - (l.counter + 1)) c.if-bit_at.child (omega arith)
+    c.if-v-from.false c.if-v-gt-LAST_LEVEL.false c.bit_at.ensures child) ∙ l.invariant
