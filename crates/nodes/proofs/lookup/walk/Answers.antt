@@ -18,5 +18,5 @@ loop-preserved c =
     let child : c.if-bit_at.child ≡ cond c.bit_at.result (get_or t.high.now l.i 0) (get_or t.low.now l.i 0) =
     elim c.if-bit_at.branch [ then-bit_at w ↦ rw (w.if-bit_at.true) w.child-is | else-bit_at w ↦ rw (w.if-bit_at.false) w.child-is ] in
     sym (walk_on (slices t.level.now t.low.now t.high.now) (looked_up p.action p.left_now p.left_next p.right_now p.right_next) l.from
-    (last_level + 2 - l.counter) l.i (omega arith) c.if-i-lt2.false c.if-level-i.false (last_level + 2 - (l.counter + 1)) c.if-bit_at.child (omega arith)
-    c.if-v-from.false c.if-v-gt-LAST_LEVEL.false c.bit_at.ensures child) ∙ l.invariant
+    (last_level + 2 - l.counter) l.i (omega arith) (omega arith) (omega arith) (last_level + 2 - (l.counter + 1)) c.if-bit_at.child (omega arith)
+    (omega arith) (omega arith) c.bit_at.ensures child) ∙ l.invariant
