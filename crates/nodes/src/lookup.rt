@@ -57,6 +57,7 @@ impl fmt::Display for LookUpError {
 }
 
 // The slices of a table are of one length, from 2 to the longest.
+#[tactic(auto, unfolding(crate::specs::Lookup::table_fits))]
 pub fn slices_fit(table: TableSlices) -> bool
     ensures { result ≡ table_fits (slices table.entry.level.now table.entry.low.now table.entry.high.now) }
 {
@@ -77,6 +78,7 @@ fn is_small(p: Point) -> bool
 }
 
 // The bit of a look-up at level v: the action's, or that of the code in the level's slot. Middle bits are 0.
+#[tactic(auto, using(crate::proofs::Bits::middle_level), unfolding(crate::specs::Lookup::looked_up))]
 fn bit_at(v: u8, p: Point) -> bool
     ensures { result ≡ looked_up p.action p.left_now p.left_next p.right_now p.right_next v }
 {
@@ -94,6 +96,7 @@ fn bit_at(v: u8, p: Point) -> bool
 }
 
 // The walk from an entry: it ends at entry 0 or 1, and each node's level is above the last.
+#[tactic(auto, using(crate::proofs::Walking::walk_none, crate::proofs::Walking::walk_end, crate::proofs::Walking::walk_at, crate::proofs::Walking::walk_off))]
 fn walk(table: TableSlices, root: u64, p: Point) -> Result<bool, LookUpError>
     requires { (length table.low.now ≡ length table.level.now) × (length table.high.now ≡ length table.level.now) }
     ensures { result ≡ walk_from (last_level + 2) (slices table.entry.level.now table.entry.low.now table.entry.high.now) (looked_up p.action p.left_now p.left_next p.right_now p.right_next) 0 root }
@@ -124,6 +127,7 @@ fn walk(table: TableSlices, root: u64, p: Point) -> Result<bool, LookUpError>
 }
 
 // The value at a point, from a root: refusal 7, then 10, else the value. Every number may be anything.
+#[tactic(auto, unfolding(crate::specs::Lookup::table_fits, crate::specs::Lookup::look_up))]
 pub fn look_up(table: TableSlices, root: u64, p: Point) -> Result<bool, LookUpError>
     ensures { result ≡ look_up (slices table.entry.level.now table.entry.low.now table.entry.high.now) root p.action p.left_now p.left_next p.right_now p.right_next }
 {

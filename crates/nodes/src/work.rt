@@ -14,6 +14,7 @@ fn lessened(x: usize, m: usize) -> usize
 }
 
 // x % n, without a division where x is below 8 n.
+#[tactic(auto, using(crate::proofs::Remainders::remainder_is))]
 fn remainder(x: usize, n: usize) -> usize
     requires { 0 < n }
     ensures { result ≡ x % n }
@@ -26,6 +27,7 @@ fn remainder(x: usize, n: usize) -> usize
 
 // A place below n for the node of level v with children lo and hi: by the larger child, spread by the level and the smaller
 // one, so that nodes made one after the other are found in few cache lines.
+#[tactic(auto, unfolding(crate::specs::internal::Index::hash_of))]
 pub(crate) fn hash(v: u32, lo: u32, hi: u32, n: usize) -> usize
     requires { 0 < n }
     ensures { (result ≡ hash_of v lo hi n) × (result < n) }
@@ -56,6 +58,7 @@ fn parted(work: &[u32]) -> usize
 }
 
 // How many entries have a link: as many as the first word says, the table's length, but at most half of the words behind it.
+#[tactic(auto, unfolding(crate::specs::internal::Parts::covers))]
 pub(crate) fn covers(work: &[u32]) -> usize
     ensures { result ≡ covers work.now }
 {
@@ -68,6 +71,7 @@ pub(crate) fn covers(work: &[u32]) -> usize
 }
 
 // How many heads the index has.
+#[tactic(auto, using(crate::proofs::Parting::index_fits), unfolding(crate::specs::internal::Parts::hashes))]
 pub(crate) fn hashes(work: &[u32]) -> usize
     ensures { result ≡ hashes work.now }
 {
@@ -75,6 +79,7 @@ pub(crate) fn hashes(work: &[u32]) -> usize
 }
 
 // Where the memory begins.
+#[tactic(auto, using(crate::proofs::Parting::index_fits))]
 pub(crate) fn memory_at(work: &[u32]) -> usize
     ensures { result ≡ memory_at work.now }
 {
@@ -82,6 +87,7 @@ pub(crate) fn memory_at(work: &[u32]) -> usize
 }
 
 // How many entries the index covers.
+#[tactic(auto, using(crate::proofs::Holding::work_uncovered, crate::proofs::Holding::work_coverage))]
 pub(crate) fn covered(work: &[u32]) -> usize
     ensures { result ≡ coverage (heads_in work.now) (links_in work.now) }
 {
@@ -92,6 +98,7 @@ pub(crate) fn covered(work: &[u32]) -> usize
 }
 
 // How many slots the memory has.
+#[tactic(auto, using(crate::proofs::Parting::index_fits))]
 pub(crate) fn slots(work: &[u32]) -> usize
     ensures { result ≡ slots_in work.now }
 {

@@ -8,6 +8,7 @@ use super::manager::Manager;
 
 impl<'packed, 'high, 'work> Manager<'packed, 'high, 'work> {
     // Whether root is an entry in use whose function holds where every variable is 0: the walk goes by low children.
+    #[tactic(auto, using(crate::proofs::Parting::levels_length, crate::proofs::Parting::low_at, crate::proofs::Zeros::zeros_low, crate::proofs::Zeros::zeros_end, crate::proofs::Zeros::low_earlier))]
     pub fn holds_at_zero(&self, root: u32) -> bool
         ensures { result ≡ holds_at_zero (table_of self.now) root }
     {

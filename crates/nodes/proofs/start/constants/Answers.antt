@@ -1,4 +1,4 @@
--- `nodes::constants` meets its contract. Assumes nothing.
+-- `nodes::start::constants` meets its contract. Assumes nothing.
 use Rattle.nodes.proofs.Starting.{constants_formed}
 use Rattle.nodes.proofs.start.constants.Goals as goal
 
