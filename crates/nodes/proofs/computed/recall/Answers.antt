@@ -7,4 +7,4 @@ use Rattle.nodes.proofs.computed.recall.Goals as goal
 pub returns-then-work-at-3 : goal.returns-then-work-at-3
 returns-then-work-at-3 c =
     let a = c.args in
-    work_holds a.work.now _ c.memory_at.ensures a.op a.f a.g _ a.s (omega (arith, c.if-slots-s.false, c.slots.ensures)) c.if-work-at.true c.if-work-at-2.true c.if-work-at-3.true refl
+    work_holds a.work.now _ c.memory_at.ensures a.key.number a.key.left a.key.right _ a.s (omega (arith, c.if-slots-s.false, c.slots.ensures)) c.if-work-at.true c.if-work-at-2.true c.if-work-at-3.true refl

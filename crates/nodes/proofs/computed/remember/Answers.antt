@@ -1,11 +1,11 @@
 -- `nodes::remember` meets its contract. Assumes nothing.
 use native.Mathlib.Omega.{arith}
 use lib.ListN.{length-set}
-use Rattle.nodes.proofs.Holding.{work_keeps, work_kept}
+use Rattle.nodes.proofs.Holding.{work_remembers, work_kept}
 use Rattle.nodes.proofs.computed.remember.Goals as goal
 
 pub returns-then-slots-s : goal.returns-then-slots-s
-returns-then-slots-s c = work_kept _ _ _ _ _
+returns-then-slots-s c = work_kept _ _ _
 
 pub bounds-work-at-2 : goal.bounds-work-at-2
 bounds-work-at-2 c =
@@ -21,5 +21,4 @@ bounds-work-at-4 c =
 
 pub returns : goal.returns
 returns c =
-    let a = c.args in
-    work_keeps a.work.now _ c.memory_at.ensures a.op a.f a.g a.r a.s (omega (arith, c.if-slots-s.false, c.slots.ensures))
+    work_remembers c.args.work.now _ c.memory_at.ensures c.args.key c.args.r c.args.s (omega (arith, c.if-slots-s.false, c.slots.ensures))
