@@ -1,7 +1,7 @@
 -- `nodes::remember` meets its contract. Assumes nothing.
 use native.Mathlib.Omega.{arith}
 use lib.ListN.{length-set}
-use Rattle.nodes.proofs.Holding.{work_remembers, work_kept}
+use Rattle.nodes.proofs.Holding.{work_keeps, work_kept}
 use Rattle.nodes.proofs.computed.remember.Goals as goal
 
 pub returns-then-slots-s : goal.returns-then-slots-s
@@ -21,4 +21,5 @@ bounds-work-at-4 c =
 
 pub returns : goal.returns
 returns c =
-    work_remembers c.args.work.now _ c.memory_at.ensures c.args.key c.args.r c.args.s (omega (arith, c.if-slots-s.false, c.slots.ensures))
+    let k = c.args.key in
+    work_keeps c.args.work.now _ c.memory_at.ensures k.number k.left k.right c.args.r c.args.s (omega (arith, c.if-slots-s.false, c.slots.ensures))
