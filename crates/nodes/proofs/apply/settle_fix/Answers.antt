@@ -7,8 +7,8 @@ use Rattle.std.specs.Prelude.{Some}
 use Rattle.nodes.specs.declared.apply.Operation.TheVariants.{Fix}
 use Rattle.nodes.specs.internal.Packed.{packed_table}
 use Rattle.nodes.specs.internal.Operate.{Settles}
-use Rattle.nodes.proofs.Parting.{levels_length, level_at, low_at}
-use Rattle.nodes.proofs.Operating.{fix_constant, fix_deeper, fix_child}
+use Rattle.nodes.proofs.Parting.{level_at, low_at}
+use Rattle.nodes.proofs.Operating.{entry_inside, fix_constant, fix_deeper, fix_child}
 use Rattle.nodes.proofs.apply.settle_fix.Goals as goal
 
 pub returns-then-f-lt2 : goal.returns-then-f-lt2
@@ -17,7 +17,7 @@ returns-then-f-lt2 c =
 
 pub bounds-packed-at : goal.bounds-packed-at
 bounds-packed-at c =
-    omega (arith, c.requires.operands.left, c.requires.operands.formed.room, levels_length c.args.packed.now)
+    (entry_inside _ c.args.high.now _ c.requires.operands.formed _ c.requires.operands.left).0
 
 pub returns-then-l-v : goal.returns-then-l-v
 returns-then-l-v c =

@@ -1,35 +1,27 @@
 -- `nodes::Manager::split_at_top` meets its contract, by the law of cofactors. Assumes nothing.
 use mathlib.Core.Path.{◌∙◌, ap₂}
 use Prim.Native.Nat.{min}
-use native.Mathlib.Omega.{arith}
-use Rattle.nodes.proofs.Parting.{levels_length}
 use Rattle.nodes.proofs.Starting.{level_byte}
-use Rattle.nodes.proofs.Operating.{splits}
+use Rattle.nodes.proofs.Operating.{entry_inside, splits}
 use Rattle.nodes.proofs.manager.Manager.split_at_top.Goals as goal
 
 pub level_of-requires : goal.level_of-requires
-level_of-requires c =
-    (omega (arith, c.requires.operands.left, c.requires.operands.formed.room, levels_length c.args.self.now.packed.now), level_byte c.requires.operands.formed _ c.requires.operands.left)
+level_of-requires c = ((entry_inside _ c.args.self.now.high.now _ c.requires.operands.formed _ c.requires.operands.left).0, level_byte c.requires.operands.formed _ c.requires.operands.left)
 
 pub level_of-requires-2 : goal.level_of-requires-2
-level_of-requires-2 c =
-    (omega (arith, c.requires.operands.right, c.requires.operands.formed.room, levels_length c.args.self.now.packed.now), level_byte c.requires.operands.formed _ c.requires.operands.right)
+level_of-requires-2 c = ((entry_inside _ c.args.self.now.high.now _ c.requires.operands.formed _ c.requires.operands.right).0, level_byte c.requires.operands.formed _ c.requires.operands.right)
 
 pub low_cofactor-requires : goal.low_cofactor-requires
-low_cofactor-requires c =
-    omega (arith, c.requires.operands.left, c.requires.operands.formed.room, levels_length c.args.self.now.packed.now)
+low_cofactor-requires c = (entry_inside _ c.args.self.now.high.now _ c.requires.operands.formed _ c.requires.operands.left).0
 
 pub high_cofactor-requires : goal.high_cofactor-requires
-high_cofactor-requires c =
-    (omega (arith, c.requires.operands.left, c.requires.operands.formed.room, levels_length c.args.self.now.packed.now), omega (arith, c.requires.operands.left, c.requires.operands.formed.room, c.requires.operands.formed.high_length))
+high_cofactor-requires c = entry_inside _ c.args.self.now.high.now _ c.requires.operands.formed _ c.requires.operands.left
 
 pub low_cofactor-requires-2 : goal.low_cofactor-requires-2
-low_cofactor-requires-2 c =
-    omega (arith, c.requires.operands.right, c.requires.operands.formed.room, levels_length c.args.self.now.packed.now)
+low_cofactor-requires-2 c = (entry_inside _ c.args.self.now.high.now _ c.requires.operands.formed _ c.requires.operands.right).0
 
 pub high_cofactor-requires-2 : goal.high_cofactor-requires-2
-high_cofactor-requires-2 c =
-    (omega (arith, c.requires.operands.right, c.requires.operands.formed.room, levels_length c.args.self.now.packed.now), omega (arith, c.requires.operands.right, c.requires.operands.formed.room, c.requires.operands.formed.high_length))
+high_cofactor-requires-2 c = entry_inside _ c.args.self.now.high.now _ c.requires.operands.formed _ c.requires.operands.right
 
 pub returns : goal.returns
 returns c =
