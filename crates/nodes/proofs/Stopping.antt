@@ -15,10 +15,11 @@ use Rattle.nodes.specs.Formula.{Formula, ⟪◌⟫, ◌∧'◌, ◌∨'◌, ¬'�
 use Rattle.nodes.specs.Needed.{Among}
 use Rattle.nodes.specs.declared.manager.Full.{Full}
 use Rattle.nodes.specs.declared.manager.Manager.{Manager}
-use Rattle.nodes.specs.internal.Lent.{store, leaving, entry_of}
+use Rattle.nodes.specs.internal.Growth.{Short}
+use Rattle.nodes.specs.internal.Lent.{table_of, store, leaving, entry_of}
 use Rattle.nodes.specs.internal.Several.{some_from, renamed_from}
 use Rattle.nodes.specs.internal.Single.{Guards}
-use Rattle.nodes.specs.internal.Work.{Store, Does, stayed, Stands, Gives, Lists, Continues, Maps, Joins, Uses₁, Uses₂, Applies, Chooses, is_deeper}
+use Rattle.nodes.specs.internal.Work.{Store, Keeps, Does, stayed, Operating, Stands, Gives, Lists, Continues, Maps, Joins, Uses₁, Uses₂, Applies, Chooses, is_deeper}
 use Rattle.nodes.proofs.Singles.{renamed_more}
 use Rattle.nodes.proofs.Working.{contrary, keeps_none, full_more, does_then, stands_kept}
 
@@ -166,3 +167,8 @@ module _ {s : Store} (m : Manager) (r : Result ℕ Full) (e : IsErr r) (open₀ 
     gives = λ y. no_entry m (x.gives y);
     nothing = λ h. changed (x.nothing h).0;
   })
+
+-- an operation that did not fit
+pub stopped_operating : {s : Store} (m : Manager) (r : Result ℕ Full) → IsErr r → {f : Fun} → Keeps s (store m true) → Short s.table (table_of m) f → Operating s (leaving m r) f r
+stopped_operating m (Ok i) e k x = contrary e refl
+stopped_operating m (Err d) e k x = record { kept = k; answers = x }

@@ -8,7 +8,7 @@ ghost use Rattle.nodes.specs.internal.Make.{Makeable, node_fun};
 ghost use Rattle.nodes.specs.internal.Lent.{table_of, entering, leaving};
 ghost use Rattle.nodes.specs.internal.Work.{Operating};
 
-use super::computed::{Key, recall, remember, slot_for};
+use super::computed::{Key, remember};
 use super::limits::MAX_LENGTH;
 use super::manager::{Full, Manager};
 use super::unique::Node;
@@ -235,8 +235,8 @@ impl<'packed, 'high, 'work> Manager<'packed, 'high, 'work> {
             return Ok(k);
         }
         let key = key_of(op.number(), f, g);
-        let s = slot_for(self.work, key);
-        if let Some(k) = recall(self.work, s, key) {
+        let s = self.slot_for(key);
+        if let Some(k) = self.recall(s, key) {
             return Ok(k);
         }
         let c = self.split_at_top(op, f, g);

@@ -7,7 +7,7 @@ ghost use Rattle.nodes.specs.internal.Lent.{table_of, entering, leaving};
 ghost use Rattle.nodes.specs.internal.Quantify.{Quantifiable, MakeableThree, MeantThree, node_funs, results_of, RecalledThree, Trebling};
 
 use super::apply::{Operation, high_cofactor, level_of, low_cofactor};
-use super::computed::{Key, remember, slot_for};
+use super::computed::{Key, remember};
 use super::limits::{CONSTANT_LEVEL, LAST_LEVEL};
 use super::manager::{Full, Manager};
 use super::unique::Node;
@@ -142,7 +142,7 @@ impl<'packed, 'high, 'work> Manager<'packed, 'high, 'work> {
             left: f,
             right: 0,
         };
-        let s = slot_for(self.work, key);
+        let s = self.slot_for(key);
         if let Some(r) = recall_three(self.work, s, v, f) {
             return Ok(r);
         }
