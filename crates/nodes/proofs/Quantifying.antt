@@ -1,8 +1,10 @@
 -- ∃ of a level by one recursion, over its three functions. Assumes nothing.
---     made_next, made_three     three nodes that are made one after the other
+--     three_..                  three nodes that are made one after the other
+--     three_recalled            what the memory has of them
+--     stopped_three             a function that ends early
 --     settle-..                 ∃ of an entry that does not read the level, or has it on top
 --     quantify-..               the recursion: each call's operand, and each way out
---     exists_maps               the answer, as a step of a formula
+--     maps_exists               the answer, as a step of a formula
 use mathlib.Core.Path.{◌≡◌, refl, sym, ap, ap₂, ◌∙◌, fun_ext, subst, subst₂}
 use mathlib.Core.Logic.{⊎_elim}
 use mathlib.Core.Bool.{Bool, true, false, ◌||◌}
@@ -10,31 +12,27 @@ use mathlib.Core.List.Memᴰ
 use mathlib.Core.List.{List, [], ◌∷◌, Memᴰ}
 use Prim.Native.Nat.{ℕ, suc, ◌<◌, ◌≤◌}
 use native.Mathlib.Omega.{arith}
-use lib.ListN.{length}
-use Rattle.nodes.specs.declared.unique.Made.TheVariants as made
+use Rattle.std.specs.Prelude.{Option, Some, Result, Ok, Err, IsErr, is_err}
+use Rattle.nodes.specs.declared.apply.Operation.TheVariants.{Or}
+use Rattle.nodes.specs.declared.manager.Full.{Full}
+use Rattle.nodes.specs.declared.manager.Manager.{Manager}
 use Rattle.nodes.specs.declared.quantify.Trio.{Trio}
-use Rattle.nodes.specs.declared.quantify.Three.{Three}
-use Rattle.nodes.specs.declared.quantify.Three.TheVariants as three
-use Rattle.nodes.specs.declared.quantify.Held.TheVariants as held
 use Rattle.nodes.specs.Fun.{Fun, either, fixed, exists, Part, From}
 use Rattle.nodes.specs.Formula.{some, value}
 use Rattle.nodes.specs.Table.{Table, last_level, level_of, choice, den, WellFormed, Entry}
-use Rattle.nodes.specs.internal.Growth.{Extends}
-use Rattle.nodes.specs.internal.Packed.{levels, lows, packed_table}
-use Rattle.nodes.specs.internal.Parts.{heads_in, links_in, memo_in}
-use Rattle.nodes.specs.internal.Index.{Indexed}
-use Rattle.nodes.specs.internal.Make.{Makeable, node_fun, Making}
-use Rattle.nodes.specs.internal.Operate.{operation, Operands, cofactor_of, Cofactor, Quantified, quantifying, Recalls, Remembered, Stores, Keeping, Operating, quantified_level, quantified_entry}
-use Rattle.nodes.specs.internal.Work.{Added, Has, Lacks, Store, store, room_of, Ready, Keeps, After, Does, grew, filled, Stands, Maps}
-use Rattle.nodes.specs.internal.Quantify.{Funs, listed, results_of, Trebled, Quantifiable, MakeableThree, node_funs, RecalledThree, LacksThree, MakingThree, FinishingThree, Quantifying, any_of}
+use Rattle.nodes.specs.internal.Growth.{Extends, Built, Short, Answers}
+use Rattle.nodes.specs.internal.Make.{Makeable, node_fun, Held, held_table, Makes}
+use Rattle.nodes.specs.internal.Lent.{table_of, store, leaving}
+use Rattle.nodes.specs.internal.Operate.{operation, Operands, cofactor_of, Cofactor, Quantified, quantifying, Recalls, Remembered, quantified_level, quantified_entry}
+use Rattle.nodes.specs.internal.Work.{Added, Has, Lacks, Store, Keeps, Does, grew, filled, Stands, Operating, Maps}
+use Rattle.nodes.specs.internal.Quantify.{Funs, listed, results_of, Trebled, Quantifiable, MakeableThree, node_funs, RecalledThree, MeantThree, Trebles, Trebling}
 use Rattle.nodes.proofs.Funs.{shannon, from_put, from_fixed, part_fixed, part_refl}
-use Rattle.nodes.proofs.Parting.{levels_length}
 use Rattle.nodes.proofs.Tables.{den_from, den_extends}
 use Rattle.nodes.proofs.Making.{answered}
 use Rattle.nodes.proofs.Stepping.{level_above}
-use Rattle.nodes.proofs.Operating.{cofactor, operation_or, put_put, from_fixed_at}
-use Rattle.nodes.proofs.Memory.{recalls, remembered_extends, remembered_stores}
-use Rattle.nodes.proofs.Working.{Within, added_none, added_then, added_within, lacks_within, grows_built, lacks_short, contrary, does_then, used_one}
+use Rattle.nodes.proofs.Operating.{cofactor, put_put, from_fixed_at}
+use Rattle.nodes.proofs.Memory.{recalls}
+use Rattle.nodes.proofs.Working.{Within, added_none, added_then, added_within, lacks_within, grows_built, lacks_short, contrary, does_then, keeps_none, keeps_then, used_one}
 
 -- ---- lists of three functions
 
@@ -87,7 +85,7 @@ pub record Next (t t₁ t₂ : Table) (fs : List Fun) (h : Fun) (i : ℕ) : Type
   pub kept : (k : ℕ) (f : Fun) → Entry t₁ k f → Entry t₂ k f
 
 module _ {t t₁ : Table} {fs : List Fun} {v lo hi : ℕ} (ok : Makeable t v lo hi) (added : Added t t₁ fs) where
-  pub makeable_kept : Makeable t₁ v lo hi
+  makeable_kept : Makeable t₁ v lo hi
   makeable_kept =
       let x = added.extends in
       let l = x.longer in
@@ -109,27 +107,33 @@ module _ {t t₁ : Table} {fs : List Fun} {v lo hi : ℕ} (ok : Makeable t v lo 
   same_fun : node_fun t₁ v lo hi ≡ node_fun t v lo hi
   same_fun = let same = den_extends t added.began t₁ added.extends in ap₂ (choice v) (same hi ok.high_used) (same lo ok.low_used)
 
-  module _ (inside : Memᴰ (node_fun t v lo hi) fs) (packed high work work' : List ℕ) where
-    within_same_fun : Within (node_fun t₁ v lo hi ∷ []) fs
-    within_same_fun = subst (λ (h : Fun). Within (h ∷ []) fs) (sym same_fun) (within_some (node_fun t v lo hi) fs inside)
+-- a node that is made from the lists h₁, which leaves h₂
+module _ (h₁ h₂ : Held) {t : Table} {fs : List Fun} {v lo hi : ℕ} (ok : Makeable t v lo hi) (added : Added t (held_table h₁) fs) (inside : Memᴰ (node_fun t v lo hi) fs) where
+  abbrev makes : Result ℕ Full → Type 0
+  makes r = Makes h₁ h₂ (node_fun (held_table h₁) v lo hi) r
 
-    within_fs : Within fs fs
-    within_fs f m = (f, m, part_refl f)
+  answers : (r : Result ℕ Full) → makes r → Answers (held_table h₁) (held_table h₂) (node_fun (held_table h₁) v lo hi) r
+  answers r x = answered h₁ h₂ v lo hi (makeable_kept ok added) r x
 
-    pub made_next : (i n : ℕ) → Making t₁ packed high work work' (node_fun t₁ v lo hi) (made.At i n) → Next t t₁ (packed_table packed high n) fs (node_fun t v lo hi) i
-    made_next i n x =
-        let b = x.0.0.built in
-        record {
-          added = added_then within_fs within_same_fun added (grows_built added.formed b).added;
-          entry = (b.found, b.stands ∙ same_fun);
-          kept = entry_kept added.formed b.grown.extends;
-        }
+  within_same_fun : Within (node_fun (held_table h₁) v lo hi ∷ []) fs
+  within_same_fun = subst (λ (h : Fun). Within (h ∷ []) fs) (sym (same_fun ok added)) (within_some (node_fun t v lo hi) fs inside)
 
-    pub made_lacks : Making t₁ packed high work work' (node_fun t₁ v lo hi) made.Full → Lacks t (packed_table packed high (length (levels packed))) fs
-    made_lacks x = lacks_after within_fs within_same_fun added
-        (lacks_short added.formed (answered t₁ v lo hi makeable_kept (levels packed) (lows packed) high (heads_in work') (links_in work') made.Full x.0))
+  within_fs : Within fs fs
+  within_fs f m = (f, m, part_refl f)
 
-pub made_three : {t t₁ t₂ t₃ : Table} {h : Funs} {i j k : ℕ} → Next t t t₁ (listed h) h.zero i → Next t t₁ t₂ (listed h) h.one j
+  made_next : (i : ℕ) → makes (Ok i) → Next t (held_table h₁) (held_table h₂) fs (node_fun t v lo hi) i
+  made_next i x =
+      let b = answers (Ok i) x in
+      record {
+        added = added_then within_fs within_same_fun added (grows_built added.formed b).added;
+        entry = (b.found, b.stands ∙ same_fun ok added);
+        kept = entry_kept added.formed b.grown.extends;
+      }
+
+  made_lacks : (e : Full) → makes (Err e) → Lacks t (held_table h₂) fs
+  made_lacks e x = lacks_after within_fs within_same_fun added (lacks_short added.formed (answers (Err e) x))
+
+made_three : {t t₁ t₂ t₃ : Table} {h : Funs} {i j k : ℕ} → Next t t t₁ (listed h) h.zero i → Next t t₁ t₂ (listed h) h.one j
     → Next t t₂ t₃ (listed h) h.any k → Trebled t t₃ h (record { zero = i; one = j; any = k })
 made_three {h = h} {i} {j} x y z = record {
   added = z.added;
@@ -138,14 +142,79 @@ made_three {h = h} {i} {j} x y z = record {
   any = z.entry;
 }
 
--- three nodes that are made, and remembered
-pub finished_three : (t : Table) (packed high work work₁ work₂ : List ℕ) (h : Funs) (o : ℕ) (r : Trio) (n : ℕ) → MakingThree t packed high work work₁ h (three.At r n)
-    → Keeping work₁ o r.zero r.one r.any work₂ → FinishingThree t packed high work work₂ h o (three.At r n)
-finished_three t packed high work work₁ work₂ h o r n m k = (
-  m.0,
-  subst₂ (Indexed (packed_table packed high n)) (sym k.1) (sym k.2) m.1,
-  subst (λ (l : List ℕ). Stores l o r.zero r.one r.any (memo_in work₂)) m.2 k.0,
-)
+-- the lists before and after each of the three
+module _ (h₀ h₁ h₂ h₃ : Held) (v : ℕ) (a b : Trio) (ok : MakeableThree (held_table h₀) v a b) where
+  abbrev h : Funs
+  h = node_funs (held_table h₀) v a b
+
+  none : Added (held_table h₀) (held_table h₀) (listed h)
+  none = added_none (held_table h₀) (listed h) ok.zero.formed
+
+  pub three_lacks_1 : (e : Full) → Makes h₀ h₁ (node_fun (held_table h₀) v a.zero b.zero) (Err e) → Lacks (held_table h₀) (held_table h₁) (listed h)
+  three_lacks_1 = made_lacks h₀ h₁ ok.zero none (first_in h)
+
+  module _ (i : ℕ) (x : Makes h₀ h₁ (node_fun (held_table h₀) v a.zero b.zero) (Ok i)) where
+    next_1 : Next (held_table h₀) (held_table h₀) (held_table h₁) (listed h) h.zero i
+    next_1 = made_next h₀ h₁ ok.zero none (first_in h) i x
+
+    pub three_lacks_2 : (e : Full) → Makes h₁ h₂ (node_fun (held_table h₁) v a.one b.one) (Err e) → Lacks (held_table h₀) (held_table h₂) (listed h)
+    three_lacks_2 = made_lacks h₁ h₂ ok.one next_1.added (second_in h)
+
+    module _ (j : ℕ) (y : Makes h₁ h₂ (node_fun (held_table h₁) v a.one b.one) (Ok j)) where
+      next_2 : Next (held_table h₀) (held_table h₁) (held_table h₂) (listed h) h.one j
+      next_2 = made_next h₁ h₂ ok.one next_1.added (second_in h) j y
+
+      -- the ∨ is the first of them
+      pub three_joined : a.any ≡ a.zero → b.any ≡ b.zero → Trebled (held_table h₀) (held_table h₂) h (record { zero = i; one = j; any = i })
+      three_joined d e =
+          let same : h.zero ≡ h.any = ap₂ (node_fun (held_table h₀) v) (sym d) (sym e) in
+          made_three next_1 next_2 (record {
+            added = next_2.added;
+            entry = subst (Entry (held_table h₂) i) same (next_2.kept i h.zero next_1.entry);
+            kept = λ k f z. z;
+          })
+
+      pub three_lacks_3 : (e : Full) → Makes h₂ h₃ (node_fun (held_table h₂) v a.any b.any) (Err e) → Lacks (held_table h₀) (held_table h₃) (listed h)
+      three_lacks_3 = made_lacks h₂ h₃ ok.any next_2.added (third_in h)
+
+      pub three_made : (k : ℕ) → Makes h₂ h₃ (node_fun (held_table h₂) v a.any b.any) (Ok k)
+          → Trebled (held_table h₀) (held_table h₃) h (record { zero = i; one = j; any = k })
+      three_made k z = made_three next_1 next_2 (made_next h₂ h₃ ok.any next_2.added (third_in h) k z)
+
+-- a function that ends early: m is left full, and r is the answer
+pub stopped_three : {s : Store} (m : Manager) {h : Funs} (r : Result Trio Full) → IsErr r → Keeps s (store m true) → Lacks s.table (table_of m) (listed h)
+    → Trebling s (leaving m r) h r
+stopped_three m (Ok i) e k x = contrary e refl
+stopped_three m (Err d) e k x = record { kept = k; answers = x }
+
+-- ---- the memory of results
+
+module _ (v f : ℕ) (in_range : v ≤ last_level) where
+  asked_level : quantified_level (quantifying v f) ≡ v
+  asked_level = omega arith
+
+  asked_entry : quantified_entry (quantifying v f) ≡ f
+  asked_entry = omega arith
+
+-- what is made may be remembered
+pub three_recalled : (t t' : Table) (v f : ℕ) (h : Funs) (r : Trio) → MeantThree t v f h → Trebled t t' h r → Recalls t' (quantifying v f) r.zero r.one r.any
+three_recalled t t' v f h r m x =
+    let same = den_extends t x.added.began t' x.added.extends f m.used in
+    let longer = x.added.extends.longer in
+    let u = m.used in
+    let q : Quantified t' v f r.zero r.one r.any = record {
+      operand = omega arith;
+      zero = x.zero.1 ∙ m.zero ∙ ap (fixed v false) (sym same);
+      one = x.one.1 ∙ m.one ∙ ap (fixed v true) (sym same);
+      any = x.any.1 ∙ m.any ∙ ap (exists v) (sym same);
+    } in
+    record {
+      left = x.zero.0;
+      right = x.one.0;
+      found = x.any.0;
+      stands = λ h. absurd (omega arith);
+      quantified = λ h. subst₂ (λ (w k : ℕ). Quantified t' w k r.zero r.one r.any) (sym (asked_level v f m.in_range)) (sym (asked_entry v f m.in_range)) q;
+    }
 
 -- ---- the results of ∃v F
 
@@ -208,34 +277,29 @@ module _ (t : Table) (v f : ℕ) (ok : Quantifiable t v f) where
       }
 
   module _ (z w : ℕ) (low : Cofactor t f v false z) (high : Cofactor t f v true w) where
-    pub settle_operands : Operands t 1 z w
-    settle_operands = record { formed = ok.formed; known = omega arith; left = low.used; right = high.used }
+    pub settle_operands : Operands t Or z w
+    settle_operands = record { formed = ok.formed; known = tt; left = low.used; right = high.used }
 
-    settle_fun : operation 1 (den t z) (den t w) ≡ exists v F
+    settle_fun : operation Or (den t z) (den t w) ≡ exists v F
     unfolding exists
-    settle_fun = operation_or 1 refl (den t z) (den t w) ∙ ap₂ either low.stands high.stands
+    settle_fun = ap₂ either low.stands high.stands
 
-    settle_within : Within (operation 1 (den t z) (den t w) ∷ []) (listed (results_of v F))
+    settle_within : Within (operation Or (den t z) (den t w) ∷ []) (listed (results_of v F))
     settle_within = subst (λ (h : Fun). Within (h ∷ []) (listed (results_of v F))) (sym settle_fun)
         (within_some (exists v F) (listed (results_of v F)) (third_in (results_of v F)))
 
-    pub settle_joined : (packed' high' work' : List ℕ) (i n : ℕ) → Operating t packed' high' work' (operation 1 (den t z) (den t w)) (made.At i n)
-        → Quantifying t packed' high' work' v F (three.At (record { zero = z; one = w; any = i }) n)
-    settle_joined packed' high' work' i n x =
-        let b = x.0 in
-        let kept = entry_kept ok.formed b.grown.extends in (
-          record {
-            added = added_within settle_within (grows_built ok.formed b).added;
-            zero = kept z (fixed v false F) (low.used, low.stands);
-            one = kept w (fixed v true F) (high.used, high.stands);
-            any = (b.found, b.stands ∙ settle_fun);
-          },
-          x.1,
-        )
+    pub settle_joined : (t' : Table) (i : ℕ) → Built t t' (operation Or (den t z) (den t w)) i → Trebled t t' (results_of v F) (record { zero = z; one = w; any = i })
+    settle_joined t' i b =
+        let kept = entry_kept ok.formed b.grown.extends in
+        record {
+          added = added_within settle_within (grows_built ok.formed b).added;
+          zero = kept z (fixed v false F) (low.used, low.stands);
+          one = kept w (fixed v true F) (high.used, high.stands);
+          any = (b.found, b.stands ∙ settle_fun);
+        }
 
-    pub settle_lacks : (packed' high' work' : List ℕ) → Operating t packed' high' work' (operation 1 (den t z) (den t w)) made.Full
-        → LacksThree t packed' high' (results_of v F)
-    settle_lacks packed' high' work' x = lacks_within settle_within (lacks_short ok.formed x)
+    pub settle_lacks : (t' : Table) → Short t t' (operation Or (den t z) (den t w)) → Lacks t t' (listed (results_of v F))
+    settle_lacks t' x = lacks_within settle_within (lacks_short ok.formed x)
 
 -- ---- the recursion
 
@@ -262,16 +326,10 @@ module _ (t : Table) (v f : ℕ) (ok : Quantifiable t v f) where
   abbrev H : Funs
   H = results_of v (den t f)
 
-  asked_level : quantified_level (quantifying v f) ≡ v
-  asked_level = let a = ok.in_range in omega arith
-
-  asked_entry : quantified_entry (quantifying v f) ≡ f
-  asked_entry = let a = ok.in_range in omega arith
-
-  pub quantify_recalled : (memo : List ℕ) → Remembered t memo → (r : Trio) → RecalledThree memo (quantifying v f) (held.At r) → Trebled t t H r
+  pub quantify_recalled : (memo : List ℕ) → Remembered t memo → (r : Trio) → RecalledThree memo (quantifying v f) (Some r) → Trebled t t H r
   quantify_recalled memo m r h =
       let x = recalls t memo (quantifying v f) r.zero r.one r.any m h in
-      let q = subst₂ (λ (w k : ℕ). Quantified t w k r.zero r.one r.any) asked_level asked_entry (x.quantified (omega arith)) in
+      let q = subst₂ (λ (w k : ℕ). Quantified t w k r.zero r.one r.any) (asked_level v f ok.in_range) (asked_entry v f ok.in_range) (x.quantified (omega arith)) in
       record {
         added = added_none t (listed H) ok.formed;
         zero = (x.left, q.zero);
@@ -377,48 +435,38 @@ module _ (t : Table) (v f : ℕ) (ok : Quantifiable t v f) where
         added_2 : Added t t₂ (listed H)
         added_2 = added_then within_low within_high first.added second.added
 
-        -- what is made is remembered
-        recalled : (t₃ : Table) (r : Trio) → Trebled t t₃ H r → Recalls t₃ (quantifying v f) r.zero r.one r.any
-        recalled t₃ r x =
-            let same = den_extends t ok.formed t₃ x.added.extends f ok.used in
-            let longer = x.added.extends.longer in
+        -- so they may be remembered
+        pub quantify_meant : MeantThree t₂ v f (node_funs t₂ l a b)
+        quantify_meant =
+            let same = den_extends t ok.formed t₂ added_2.extends f ok.used in
+            let longer = added_2.extends.longer in
             let u = ok.used in
-            let q : Quantified t₃ v f r.zero r.one r.any = record {
-              operand = omega arith;
-              zero = x.zero.1 ∙ ap (fixed v false) (sym same);
-              one = x.one.1 ∙ ap (fixed v true) (sym same);
-              any = x.any.1 ∙ ap (exists v) (sym same);
-            } in
             record {
-              left = x.zero.0;
-              right = x.one.0;
-              found = x.any.0;
-              stands = λ h. absurd (omega arith);
-              quantified = λ h. subst₂ (λ (w k : ℕ). Quantified t₃ w k r.zero r.one r.any) (sym asked_level) (sym asked_entry) q;
+              in_range = ok.in_range;
+              used = omega arith;
+              zero = ap (λ (h : Funs). h.zero) same_funs ∙ ap (fixed v false) (sym same);
+              one = ap (λ (h : Funs). h.one) same_funs ∙ ap (fixed v true) (sym same);
+              any = ap (λ (h : Funs). h.any) same_funs ∙ ap (exists v) (sym same);
             }
 
-        pub quantify_answers : (packed high work work' : List ℕ) → Remembered t₂ (memo_in work) → (r : Three)
-            → FinishingThree t₂ packed high work work' (node_funs t₂ l a b) (quantifying v f) r → Quantifying t packed high work' v (den t f) r
-        quantify_answers packed high work work' rem (three.At r n) x =
-            let t₃ = packed_table packed high n in
-            let y = trebled_same r same_funs x.0 in
-            let z : Trebled t t₃ H r = record {
+        pub quantify_answers : (t₃ : Table) (r : Result Trio Full) → Trebles t₂ t₃ (node_funs t₂ l a b) r → Trebles t t₃ H r
+        quantify_answers t₃ (Ok r) x =
+            let y = trebled_same r same_funs x in
+            record {
               added = added_then (within_same H) (within_same H) added_2 y.added;
               zero = y.zero;
               one = y.one;
               any = y.any;
-            } in (
-              z,
-              record {
-                indexed = x.1;
-                remembered = remembered_stores t₃ (memo_in work) (memo_in work') (quantifying v f) r.zero r.one r.any
-                    (remembered_extends t₂ t₃ second.added.formed y.added.extends (memo_in work) rem) (recalled t₃ r z) x.2;
-              },
-            )
-        quantify_answers packed high work work' rem three.Full x =
-            lacks_after (within_same H) (within_same H) added_2 (subst (LacksThree t₂ packed high) same_funs x)
+            }
+        quantify_answers t₃ (Err e) x =
+            lacks_after (within_same H) (within_same H) added_2 (subst (λ (h : Funs). Lacks t₂ t₃ (listed h)) same_funs x)
 
 -- ---- ∃ as a step of a formula
+
+-- the entry of ∃
+abbrev pub any_of : Result Trio Full → ℕ
+any_of (Ok r) = r.any
+any_of (Err e) = 0
 
 has_three : {t t' : Table} (h : Funs) (r : Trio) → Trebled t t' h r → (f : Fun) → Memᴰ f (listed h) → Has t' f
 has_three h r x f m = ⊎_elim
@@ -429,39 +477,21 @@ has_three h r x f m = ⊎_elim
     (Memᴰ.cases_cons m'))
     (Memᴰ.cases_cons m)
 
-module _ (s : Store) (packed high work : List ℕ) (v : ℕ) where
-  abbrev after : Three → Store
-  after r = store packed high work (room_of (any_of r) (length packed))
-
-  pub quantified_ready : (F : Fun) (r : Three) → Quantifying s.table packed high work v F r → Ready (after r)
-  quantified_ready F (three.At r n) x = record { formed = λ _. x.0.added.formed; helped = λ _. x.1 }
-  quantified_ready F three.Full x = record { formed = λ e. contrary refl e; helped = λ e. contrary refl e }
-
+module _ {s s' : Store} where
   -- the answer, as what was done
-  pub quantified : s.full ≡ false → (F : Fun) (r : Three) → Quantifying s.table packed high work v F r
-      → Does s (after r) (listed (results_of v F)) × Stands (after r) (room_of (any_of r) (length packed)).root (exists v F)
-  quantified e F (three.At r n) x = let y = x.0 in (grew e refl (record { added = y.added; has = has_three (results_of v F) r y }), λ _. y.any)
-  quantified e F three.Full x =
-      (filled e refl (subst (λ (n : ℕ). Lacks s.table (packed_table packed high n) (listed (results_of v F))) (levels_length packed) x), λ o. contrary refl o)
+  quantified : (h : Funs) (r : Result Trio Full) → s.full ≡ false → s'.full ≡ is_err r → Trebles s.table s'.table h r
+      → Does s s' (listed h) × Stands s' (any_of r) h.any
+  quantified h (Ok r) e k x = (grew e k (record { added = x.added; has = has_three h r x }), λ _. x.any)
+  quantified h (Err _) e k x = (filled e k x, λ o. contrary k o)
 
--- the three functions are listed with ∃
-quantified_maps : {s s' : Store} (v f i : ℕ) → f < s.table.used → After s s'
-    → ((F : Fun) → Stands s f F → Does s s' (listed (results_of v F)) × Stands s' i (exists v F)) → Maps s s' (some v) f i
-quantified_maps v f i u a x = record {
-  after = a;
-  gives = λ {s₀} {φ} p. let (d, e) = x (value φ) p.stands in record { does = does_then p.does d; stands = e };
-  nothing = used_one u;
-}
-
-pub exists_maps : (s : Store) (packed high work : List ℕ) (v f : ℕ) → s.full ≡ false → f < s.table.used → Keeps s (store packed high work (room_of made.Full 0)) → (r : Three)
-    → Quantifying s.table packed high work v (den s.table f) r
-    → Maps s (after s packed high work v r) (some v) f (room_of (any_of r) (length packed)).root
-exists_maps s packed high work v f e u k r x =
-    quantified_maps v f (room_of (any_of r) (length packed)).root u
-    (record {
-      ready = quantified_ready s packed high work v (den s.table f) r x;
-      kept = record { packed = k.packed; high = k.high; work = k.work };
-    })
-    (λ F y. subst (λ (G : Fun). Does s (after s packed high work v r) (listed (results_of v G))
-    × Stands (after s packed high work v r) (room_of (any_of r) (length packed)).root (exists v G)) (y e).1
-    (quantified s packed high work v e (den s.table f) r x))
+  -- the three functions are listed with ∃
+  pub maps_exists : (v f : ℕ) (r : Result Trio Full) → s.full ≡ false → s'.full ≡ is_err r → f < s.table.used
+      → Trebling s s' (results_of v (den s.table f)) r → Maps s s' (some v) f (any_of r)
+  maps_exists v f r e k u x = record {
+    kept = x.kept;
+    gives = λ {s₀} {φ} p.
+        let (d, y) = subst (λ (F : Fun). Does s s' (listed (results_of v F)) × Stands s' (any_of r) (exists v F)) (p.stands e).1
+        (quantified (results_of v (den s.table f)) r e k x.answers) in
+        record { does = does_then p.does d; stands = y };
+    nothing = used_one u;
+  }
