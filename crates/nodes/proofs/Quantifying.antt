@@ -251,12 +251,12 @@ module _ (v : ℕ) (F : Fun) where
 -- ---- an entry that does not read v, or has it on top
 
 -- an entry with a level fixed that it may have on top
-module _ (t : Table) (v f : ℕ) (ok : Quantifiable t v f) (l : ℕ) (most : l ≤ last_level) (top : l ≤ level_of t f) where
-  pub low_fixed : (i : ℕ) → i ≡ cofactor_of t.level t.low f l → Cofactor t f l false i
-  low_fixed i e = subst (Cofactor t f l false) (sym e) (cofactor t ok.formed f ok.used false l most top)
+module _ (t : Table) (v f : ℕ) (ok : Quantifiable t v f) (top : v ≤ level_of t f) (i : ℕ) where
+  pub low_fixed : i ≡ cofactor_of t.level t.low f v → Cofactor t f v false i
+  low_fixed e = subst (Cofactor t f v false) (sym e) (cofactor t ok.formed f ok.used false v ok.in_range top)
 
-  pub high_fixed : (i : ℕ) → i ≡ cofactor_of t.level t.high f l → Cofactor t f l true i
-  high_fixed i e = subst (Cofactor t f l true) (sym e) (cofactor t ok.formed f ok.used true l most top)
+  pub high_fixed : i ≡ cofactor_of t.level t.high f v → Cofactor t f v true i
+  high_fixed e = subst (Cofactor t f v true) (sym e) (cofactor t ok.formed f ok.used true v ok.in_range top)
 
 module _ (t : Table) (v f : ℕ) (ok : Quantifiable t v f) where
   abbrev F : Fun
