@@ -12,19 +12,19 @@ use mathlib.Core.List.Memᴰ
 use mathlib.Core.List.{List, [], ◌∷◌, Memᴰ}
 use Prim.Native.Nat.{ℕ, suc, ◌<◌, ◌≤◌}
 use native.Mathlib.Omega.{arith}
-use Rattle.std.specs.Prelude.{Option, Some, Result, Ok, Err, IsErr, is_err}
+use Rattle.std.specs.Prelude.{Some, Result, Ok, Err, IsErr, is_err}
 use Rattle.nodes.specs.declared.apply.Operation.TheVariants.{Or}
 use Rattle.nodes.specs.declared.manager.Full.{Full}
 use Rattle.nodes.specs.declared.manager.Manager.{Manager}
 use Rattle.nodes.specs.declared.quantify.Trio.{Trio}
 use Rattle.nodes.specs.Fun.{Fun, either, fixed, exists, Part, From}
-use Rattle.nodes.specs.Formula.{some, value}
+use Rattle.nodes.specs.Formula.{some}
 use Rattle.nodes.specs.Table.{Table, last_level, level_of, choice, den, WellFormed, Entry}
 use Rattle.nodes.specs.internal.Growth.{Extends, Built, Short, Answers}
 use Rattle.nodes.specs.internal.Make.{Makeable, node_fun, Held, held_table, Makes}
 use Rattle.nodes.specs.internal.Lent.{table_of, store, leaving}
 use Rattle.nodes.specs.internal.Operate.{operation, Operands, cofactor_of, Cofactor, Quantified, quantifying, Recalls, Remembered, quantified_level, quantified_entry}
-use Rattle.nodes.specs.internal.Work.{Added, Has, Lacks, Store, Keeps, Does, grew, filled, Stands, Operating, Maps}
+use Rattle.nodes.specs.internal.Work.{Added, Has, Lacks, Store, Keeps, Does, grew, filled, Stands, Maps}
 use Rattle.nodes.specs.internal.Quantify.{Funs, listed, results_of, Trebled, Quantifiable, MakeableThree, node_funs, RecalledThree, MeantThree, Trebles, Trebling}
 use Rattle.nodes.proofs.Funs.{shannon, from_put, from_fixed, part_fixed, part_refl}
 use Rattle.nodes.proofs.Tables.{den_from, den_extends}
@@ -32,7 +32,7 @@ use Rattle.nodes.proofs.Making.{answered}
 use Rattle.nodes.proofs.Stepping.{level_above}
 use Rattle.nodes.proofs.Operating.{cofactor, put_put, from_fixed_at}
 use Rattle.nodes.proofs.Memory.{recalls}
-use Rattle.nodes.proofs.Working.{Within, added_none, added_then, added_within, lacks_within, grows_built, lacks_short, contrary, does_then, keeps_none, keeps_then, used_one}
+use Rattle.nodes.proofs.Working.{Within, added_none, added_then, added_within, lacks_within, grows_built, lacks_short, contrary, does_then, used_one}
 
 -- ---- lists of three functions
 
@@ -322,144 +322,153 @@ module _ (t : Table) (wf : WellFormed t) (l : ℕ) (in_range : l ≤ last_level)
 trebled_same : {t t' : Table} {g h : Funs} (r : Trio) → g ≡ h → Trebled t t' g r → Trebled t t' h r
 trebled_same {t} {t'} r e = subst (λ (k : Funs). Trebled t t' k r) e
 
-module _ (t : Table) (v f : ℕ) (ok : Quantifiable t v f) where
+-- the results that the memory has
+pub quantify_recalled : (t : Table) (v f : ℕ) → Quantifiable t v f → (memo : List ℕ) → Remembered t memo → (r : Trio) → RecalledThree memo (quantifying v f) (Some r)
+    → Trebled t t (results_of v (den t f)) r
+quantify_recalled t v f ok memo m r h =
+    let x = recalls t memo (quantifying v f) r.zero r.one r.any m h in
+    let q = subst₂ (λ (w k : ℕ). Quantified t w k r.zero r.one r.any) (asked_level v f ok.in_range) (asked_entry v f ok.in_range) (x.quantified (omega arith)) in
+    record {
+      added = added_none t (listed (results_of v (den t f))) ok.formed;
+      zero = (x.left, q.zero);
+      one = (x.right, q.one);
+      any = (x.found, q.any);
+    }
+
+-- entry f has a level l above v, and f0 and f1 are f with l fixed to each bit
+pub record Above (t : Table) (v f l f0 f1 : ℕ) : Type 0 where
+  pub ok : Quantifiable t v f
+  pub top : l ≡ level_of t f
+  pub above : l < v
+  pub low : Cofactor t f l false f0
+  pub high : Cofactor t f l true f1
+
+module _ {t : Table} {v f l f0 f1 : ℕ} (sp : Above t v f l f0 f1) where
   abbrev H : Funs
   H = results_of v (den t f)
 
-  pub quantify_recalled : (memo : List ℕ) → Remembered t memo → (r : Trio) → RecalledThree memo (quantifying v f) (Some r) → Trebled t t H r
-  quantify_recalled memo m r h =
-      let x = recalls t memo (quantifying v f) r.zero r.one r.any m h in
-      let q = subst₂ (λ (w k : ℕ). Quantified t w k r.zero r.one r.any) (asked_level v f ok.in_range) (asked_entry v f ok.in_range) (x.quantified (omega arith)) in
-      record {
-        added = added_none t (listed H) ok.formed;
-        zero = (x.left, q.zero);
-        one = (x.right, q.one);
-        any = (x.found, q.any);
-      }
+  differ : l ≡ v → ⊥
+  differ e = let a = sp.above in omega arith
 
-  module _ (l : ℕ) (top : l ≡ level_of t f) (above : l < v) (f0 f1 : ℕ) (low : Cofactor t f l false f0) (high : Cofactor t f l true f1) where
-    differ : l ≡ v → ⊥
-    differ e = omega arith
+  in_range : l ≤ last_level
+  in_range = let a = sp.ok.in_range in let b = sp.above in omega arith
 
-    in_range : l ≤ last_level
-    in_range = let a = ok.in_range in omega arith
+  from : From l (den t f)
+  from = subst (λ (k : ℕ). From k (den t f)) (sym sp.top) (den_from t sp.ok.formed f sp.ok.used)
 
-    from : From l (den t f)
-    from = subst (λ (k : ℕ). From k (den t f)) (sym top) (den_from t ok.formed f ok.used)
+  pub falls_low : f0 < f
+  falls_low = sp.low.less (sym sp.top)
 
-    pub falls_low : f0 < f
-    falls_low = low.less (sym top)
+  pub falls_high : f1 < f
+  falls_high = sp.high.less (sym sp.top)
 
-    pub falls_high : f1 < f
-    falls_high = high.less (sym top)
+  pub quantify_low : Quantifiable t v f0
+  quantify_low = record { formed = sp.ok.formed; in_range = sp.ok.in_range; used = sp.low.used }
 
-    pub quantify_low : Quantifiable t v f0
-    quantify_low = record { formed = ok.formed; in_range = ok.in_range; used = low.used }
+  within_low : Within (listed (results_of v (den t f0))) (listed H)
+  within_low = subst (λ (F : Fun). Within (listed (results_of v F)) (listed H)) (sym sp.low.stands) (within_fixed v (den t f) l differ false from)
 
-    within_low : Within (listed (results_of v (den t f0))) (listed H)
-    within_low = subst (λ (F : Fun). Within (listed (results_of v F)) (listed H)) (sym low.stands) (within_fixed v (den t f) l differ false from)
+  pub quantify_short_1 : (t₁ : Table) → Lacks t t₁ (listed (results_of v (den t f0))) → Lacks t t₁ (listed H)
+  quantify_short_1 t₁ x = lacks_within within_low x
 
-    pub quantify_short_1 : (t₁ : Table) → Lacks t t₁ (listed (results_of v (den t f0))) → Lacks t t₁ (listed H)
-    quantify_short_1 t₁ x = lacks_within within_low x
+  module _ (t₁ : Table) (a : Trio) (first : Trebled t t₁ (results_of v (den t f0)) a) where
+    pub quantify_high : Quantifiable t₁ v f1
+    quantify_high =
+        let x = first.added.extends.longer in
+        let u = sp.high.used in
+        record { formed = first.added.formed; in_range = sp.ok.in_range; used = omega arith }
 
-    module _ (t₁ : Table) (a : Trio) (first : Trebled t t₁ (results_of v (den t f0)) a) where
-      pub quantify_high : Quantifiable t₁ v f1
-      quantify_high =
-          let x = first.added.extends.longer in
-          let u = high.used in
-          record { formed = first.added.formed; in_range = ok.in_range; used = omega arith }
+    high_same : den t₁ f1 ≡ fixed l true (den t f)
+    high_same = den_extends t sp.ok.formed t₁ first.added.extends f1 sp.high.used ∙ sp.high.stands
 
-      high_same : den t₁ f1 ≡ fixed l true (den t f)
-      high_same = den_extends t ok.formed t₁ first.added.extends f1 high.used ∙ high.stands
+    within_high : Within (listed (results_of v (den t₁ f1))) (listed H)
+    within_high = subst (λ (F : Fun). Within (listed (results_of v F)) (listed H)) (sym high_same) (within_fixed v (den t f) l differ true from)
 
-      within_high : Within (listed (results_of v (den t₁ f1))) (listed H)
-      within_high = subst (λ (F : Fun). Within (listed (results_of v F)) (listed H)) (sym high_same) (within_fixed v (den t f) l differ true from)
+    pub quantify_short_2 : (t₂ : Table) → Lacks t₁ t₂ (listed (results_of v (den t₁ f1))) → Lacks t t₂ (listed H)
+    quantify_short_2 t₂ x = lacks_after within_low within_high first.added x
 
-      pub quantify_short_2 : (t₂ : Table) → Lacks t₁ t₂ (listed (results_of v (den t₁ f1))) → Lacks t t₂ (listed H)
-      quantify_short_2 t₂ x = lacks_after within_low within_high first.added x
+    module _ (t₂ : Table) (b : Trio) (second : Trebled t₁ t₂ (results_of v (den t₁ f1)) b) where
+      -- the six entries in t₂
+      low_entry : (i : ℕ) (h : Fun → Fun) (K : Fun) → h (fixed l false (den t f)) ≡ fixed l false K → Entry t₁ i (h (den t f0)) → Entry t₂ i (fixed l false K)
+      low_entry i h K e x =
+          entry_kept first.added.formed second.added.extends i (fixed l false K) (x.0, x.1 ∙ ap h sp.low.stands ∙ e)
 
-      module _ (t₂ : Table) (b : Trio) (second : Trebled t₁ t₂ (results_of v (den t₁ f1)) b) where
-        -- the six entries in t₂
-        low_entry : (i : ℕ) (h : Fun → Fun) (K : Fun) → h (fixed l false (den t f)) ≡ fixed l false K → Entry t₁ i (h (den t f0)) → Entry t₂ i (fixed l false K)
-        low_entry i h K e x =
-            entry_kept first.added.formed second.added.extends i (fixed l false K) (x.0, x.1 ∙ ap h low.stands ∙ e)
+      high_entry : (i : ℕ) (h : Fun → Fun) (K : Fun) → h (fixed l true (den t f)) ≡ fixed l true K → Entry t₂ i (h (den t₁ f1)) → Entry t₂ i (fixed l true K)
+      high_entry i h K e x = (x.0, x.1 ∙ ap h high_same ∙ e)
 
-        high_entry : (i : ℕ) (h : Fun → Fun) (K : Fun) → h (fixed l true (den t f)) ≡ fixed l true K → Entry t₂ i (h (den t₁ f1)) → Entry t₂ i (fixed l true K)
-        high_entry i h K e x = (x.0, x.1 ∙ ap h high_same ∙ e)
+      zero_low : Entry t₂ a.zero (fixed l false H.zero)
+      zero_low = low_entry a.zero (fixed v false) H.zero (fixed_turned v (den t f) l differ false false) first.zero
 
-        zero_low : Entry t₂ a.zero (fixed l false H.zero)
-        zero_low = low_entry a.zero (fixed v false) H.zero (fixed_turned v (den t f) l differ false false) first.zero
+      one_low : Entry t₂ a.one (fixed l false H.one)
+      one_low = low_entry a.one (fixed v true) H.one (fixed_turned v (den t f) l differ false true) first.one
 
-        one_low : Entry t₂ a.one (fixed l false H.one)
-        one_low = low_entry a.one (fixed v true) H.one (fixed_turned v (den t f) l differ false true) first.one
+      any_low : Entry t₂ a.any (fixed l false H.any)
+      any_low = low_entry a.any (exists v) H.any (exists_turned v (den t f) l differ false) first.any
 
-        any_low : Entry t₂ a.any (fixed l false H.any)
-        any_low = low_entry a.any (exists v) H.any (exists_turned v (den t f) l differ false) first.any
+      zero_high : Entry t₂ b.zero (fixed l true H.zero)
+      zero_high = high_entry b.zero (fixed v false) H.zero (fixed_turned v (den t f) l differ true false) second.zero
 
-        zero_high : Entry t₂ b.zero (fixed l true H.zero)
-        zero_high = high_entry b.zero (fixed v false) H.zero (fixed_turned v (den t f) l differ true false) second.zero
+      one_high : Entry t₂ b.one (fixed l true H.one)
+      one_high = high_entry b.one (fixed v true) H.one (fixed_turned v (den t f) l differ true true) second.one
 
-        one_high : Entry t₂ b.one (fixed l true H.one)
-        one_high = high_entry b.one (fixed v true) H.one (fixed_turned v (den t f) l differ true true) second.one
+      any_high : Entry t₂ b.any (fixed l true H.any)
+      any_high = high_entry b.any (exists v) H.any (exists_turned v (den t f) l differ true) second.any
 
-        any_high : Entry t₂ b.any (fixed l true H.any)
-        any_high = high_entry b.any (exists v) H.any (exists_turned v (den t f) l differ true) second.any
+      from_zero : From l H.zero
+      from_zero = from_fixed_at (den t f) from v false
 
-        from_zero : From l H.zero
-        from_zero = from_fixed_at (den t f) from v false
+      from_one : From l H.one
+      from_one = from_fixed_at (den t f) from v true
 
-        from_one : From l H.one
-        from_one = from_fixed_at (den t f) from v true
+      from_any : From l H.any
+      from_any = from_exists v (den t f) from
 
-        from_any : From l H.any
-        from_any = from_exists v (den t f) from
+      pub quantify_makeable : MakeableThree t₂ l a b
+      quantify_makeable =
+          let wf = second.added.formed in
+          record {
+            zero = makeable_over t₂ wf l in_range H.zero from_zero a.zero b.zero zero_low zero_high;
+            one = makeable_over t₂ wf l in_range H.one from_one a.one b.one one_low one_high;
+            any = makeable_over t₂ wf l in_range H.any from_any a.any b.any any_low any_high;
+          }
 
-        pub quantify_makeable : MakeableThree t₂ l a b
-        quantify_makeable =
-            let wf = second.added.formed in
-            record {
-              zero = makeable_over t₂ wf l in_range H.zero from_zero a.zero b.zero zero_low zero_high;
-              one = makeable_over t₂ wf l in_range H.one from_one a.one b.one one_low one_high;
-              any = makeable_over t₂ wf l in_range H.any from_any a.any b.any any_low any_high;
-            }
+      same_funs : node_funs t₂ l a b ≡ H
+      same_funs i =
+          let wf = second.added.formed in
+          record {
+            zero = node_over t₂ wf l in_range H.zero from_zero a.zero b.zero zero_low zero_high i;
+            one = node_over t₂ wf l in_range H.one from_one a.one b.one one_low one_high i;
+            any = node_over t₂ wf l in_range H.any from_any a.any b.any any_low any_high i;
+          }
 
-        same_funs : node_funs t₂ l a b ≡ H
-        same_funs i =
-            let wf = second.added.formed in
-            record {
-              zero = node_over t₂ wf l in_range H.zero from_zero a.zero b.zero zero_low zero_high i;
-              one = node_over t₂ wf l in_range H.one from_one a.one b.one one_low one_high i;
-              any = node_over t₂ wf l in_range H.any from_any a.any b.any any_low any_high i;
-            }
+      added_2 : Added t t₂ (listed H)
+      added_2 = added_then within_low within_high first.added second.added
 
-        added_2 : Added t t₂ (listed H)
-        added_2 = added_then within_low within_high first.added second.added
+      -- so they may be remembered
+      pub quantify_meant : MeantThree t₂ v f (node_funs t₂ l a b)
+      quantify_meant =
+          let same = den_extends t sp.ok.formed t₂ added_2.extends f sp.ok.used in
+          let longer = added_2.extends.longer in
+          let u = sp.ok.used in
+          record {
+            in_range = sp.ok.in_range;
+            used = omega arith;
+            zero = ap (λ (h : Funs). h.zero) same_funs ∙ ap (fixed v false) (sym same);
+            one = ap (λ (h : Funs). h.one) same_funs ∙ ap (fixed v true) (sym same);
+            any = ap (λ (h : Funs). h.any) same_funs ∙ ap (exists v) (sym same);
+          }
 
-        -- so they may be remembered
-        pub quantify_meant : MeantThree t₂ v f (node_funs t₂ l a b)
-        quantify_meant =
-            let same = den_extends t ok.formed t₂ added_2.extends f ok.used in
-            let longer = added_2.extends.longer in
-            let u = ok.used in
-            record {
-              in_range = ok.in_range;
-              used = omega arith;
-              zero = ap (λ (h : Funs). h.zero) same_funs ∙ ap (fixed v false) (sym same);
-              one = ap (λ (h : Funs). h.one) same_funs ∙ ap (fixed v true) (sym same);
-              any = ap (λ (h : Funs). h.any) same_funs ∙ ap (exists v) (sym same);
-            }
-
-        pub quantify_answers : (t₃ : Table) (r : Result Trio Full) → Trebles t₂ t₃ (node_funs t₂ l a b) r → Trebles t t₃ H r
-        quantify_answers t₃ (Ok r) x =
-            let y = trebled_same r same_funs x in
-            record {
-              added = added_then (within_same H) (within_same H) added_2 y.added;
-              zero = y.zero;
-              one = y.one;
-              any = y.any;
-            }
-        quantify_answers t₃ (Err e) x =
-            lacks_after (within_same H) (within_same H) added_2 (subst (λ (h : Funs). Lacks t₂ t₃ (listed h)) same_funs x)
+      pub quantify_answers : (t₃ : Table) (r : Result Trio Full) → Trebles t₂ t₃ (node_funs t₂ l a b) r → Trebles t t₃ H r
+      quantify_answers t₃ (Ok r) x =
+          let y = trebled_same r same_funs x in
+          record {
+            added = added_then (within_same H) (within_same H) added_2 y.added;
+            zero = y.zero;
+            one = y.one;
+            any = y.any;
+          }
+      quantify_answers t₃ (Err e) x =
+          lacks_after (within_same H) (within_same H) added_2 (subst (λ (h : Funs). Lacks t₂ t₃ (listed h)) same_funs x)
 
 -- ---- ∃ as a step of a formula
 
