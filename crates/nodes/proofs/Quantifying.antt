@@ -23,7 +23,7 @@ use Rattle.nodes.specs.Table.{Table, last_level, level_of, choice, den, WellForm
 use Rattle.nodes.specs.internal.Growth.{Extends, Built, Short, Answers}
 use Rattle.nodes.specs.internal.Make.{Makeable, node_fun, Held, held_table, Makes}
 use Rattle.nodes.specs.internal.Lent.{table_of, store, leaving}
-use Rattle.nodes.specs.internal.Operate.{operation, Operands, cofactor_of, Cofactor, Quantified, quantifying, Recalls, Remembered, quantified_level, quantified_entry}
+use Rattle.nodes.specs.internal.Operate.{operation, cofactor_of, Cofactor, Quantified, quantifying, Recalls, Remembered, quantified_level, quantified_entry}
 use Rattle.nodes.specs.internal.Work.{Added, Has, Lacks, Store, Keeps, Does, grew, filled, Stands, Maps}
 use Rattle.nodes.specs.internal.Quantify.{Funs, listed, results_of, Trebled, Quantifiable, MakeableThree, node_funs, RecalledThree, MeantThree, Trebles, Trebling}
 use Rattle.nodes.proofs.Funs.{shannon, from_put, from_fixed, part_fixed, part_refl}
@@ -142,44 +142,44 @@ made_three {h = h} {i} {j} x y z = record {
   any = z.entry;
 }
 
--- the lists before and after each of the three
-module _ (h₀ h₁ h₂ h₃ : Held) (v : ℕ) (a b : Trio) (ok : MakeableThree (held_table h₀) v a b) where
-  abbrev h : Funs
-  h = node_funs (held_table h₀) v a b
+-- three nodes from the lists h₀, which leave h₁, h₂ and h₃ in turn
+abbrev three : Held → ℕ → Trio → Trio → Funs
+three h₀ v a b = node_funs (held_table h₀) v a b
 
-  none : Added (held_table h₀) (held_table h₀) (listed h)
-  none = added_none (held_table h₀) (listed h) ok.zero.formed
+none_yet : {t : Table} {v : ℕ} {a b : Trio} → MakeableThree t v a b → Added t t (listed (node_funs t v a b))
+none_yet {t} {v} {a} {b} ok = added_none t (listed (node_funs t v a b)) ok.zero.formed
 
-  pub three_lacks_1 : (e : Full) → Makes h₀ h₁ (node_fun (held_table h₀) v a.zero b.zero) (Err e) → Lacks (held_table h₀) (held_table h₁) (listed h)
-  three_lacks_1 = made_lacks h₀ h₁ ok.zero none (first_in h)
+module _ {h₀ h₁ : Held} {v : ℕ} {a b : Trio} (ok : MakeableThree (held_table h₀) v a b) where
+  pub three_lacks_1 : {e : Full} → Makes h₀ h₁ (node_fun (held_table h₀) v a.zero b.zero) (Err e) → Lacks (held_table h₀) (held_table h₁) (listed (three h₀ v a b))
+  three_lacks_1 {e} = made_lacks h₀ h₁ ok.zero (none_yet ok) (first_in (three h₀ v a b)) e
 
-  module _ (i : ℕ) (x : Makes h₀ h₁ (node_fun (held_table h₀) v a.zero b.zero) (Ok i)) where
-    next_1 : Next (held_table h₀) (held_table h₀) (held_table h₁) (listed h) h.zero i
-    next_1 = made_next h₀ h₁ ok.zero none (first_in h) i x
+  module _ {i : ℕ} (x : Makes h₀ h₁ (node_fun (held_table h₀) v a.zero b.zero) (Ok i)) where
+    next_1 : Next (held_table h₀) (held_table h₀) (held_table h₁) (listed (three h₀ v a b)) (node_fun (held_table h₀) v a.zero b.zero) i
+    next_1 = made_next h₀ h₁ ok.zero (none_yet ok) (first_in (three h₀ v a b)) i x
 
-    pub three_lacks_2 : (e : Full) → Makes h₁ h₂ (node_fun (held_table h₁) v a.one b.one) (Err e) → Lacks (held_table h₀) (held_table h₂) (listed h)
-    three_lacks_2 = made_lacks h₁ h₂ ok.one next_1.added (second_in h)
+    pub three_lacks_2 : {h₂ : Held} {e : Full} → Makes h₁ h₂ (node_fun (held_table h₁) v a.one b.one) (Err e) → Lacks (held_table h₀) (held_table h₂) (listed (three h₀ v a b))
+    three_lacks_2 {h₂} {e} = made_lacks h₁ h₂ ok.one next_1.added (second_in (three h₀ v a b)) e
 
-    module _ (j : ℕ) (y : Makes h₁ h₂ (node_fun (held_table h₁) v a.one b.one) (Ok j)) where
-      next_2 : Next (held_table h₀) (held_table h₁) (held_table h₂) (listed h) h.one j
-      next_2 = made_next h₁ h₂ ok.one next_1.added (second_in h) j y
+    module _ {h₂ : Held} {j : ℕ} (y : Makes h₁ h₂ (node_fun (held_table h₁) v a.one b.one) (Ok j)) where
+      next_2 : Next (held_table h₀) (held_table h₁) (held_table h₂) (listed (three h₀ v a b)) (node_fun (held_table h₀) v a.one b.one) j
+      next_2 = made_next h₁ h₂ ok.one next_1.added (second_in (three h₀ v a b)) j y
 
       -- the ∨ is the first of them
-      pub three_joined : a.any ≡ a.zero → b.any ≡ b.zero → Trebled (held_table h₀) (held_table h₂) h (record { zero = i; one = j; any = i })
+      pub three_joined : a.any ≡ a.zero → b.any ≡ b.zero → Trebled (held_table h₀) (held_table h₂) (three h₀ v a b) (record { zero = i; one = j; any = i })
       three_joined d e =
-          let same : h.zero ≡ h.any = ap₂ (node_fun (held_table h₀) v) (sym d) (sym e) in
+          let same : (three h₀ v a b).zero ≡ (three h₀ v a b).any = ap₂ (node_fun (held_table h₀) v) (sym d) (sym e) in
           made_three next_1 next_2 (record {
             added = next_2.added;
-            entry = subst (Entry (held_table h₂) i) same (next_2.kept i h.zero next_1.entry);
+            entry = subst (Entry (held_table h₂) i) same (next_2.kept i _ next_1.entry);
             kept = λ k f z. z;
           })
 
-      pub three_lacks_3 : (e : Full) → Makes h₂ h₃ (node_fun (held_table h₂) v a.any b.any) (Err e) → Lacks (held_table h₀) (held_table h₃) (listed h)
-      three_lacks_3 = made_lacks h₂ h₃ ok.any next_2.added (third_in h)
+      pub three_lacks_3 : {h₃ : Held} {e : Full} → Makes h₂ h₃ (node_fun (held_table h₂) v a.any b.any) (Err e) → Lacks (held_table h₀) (held_table h₃) (listed (three h₀ v a b))
+      three_lacks_3 {h₃} {e} = made_lacks h₂ h₃ ok.any next_2.added (third_in (three h₀ v a b)) e
 
-      pub three_made : (k : ℕ) → Makes h₂ h₃ (node_fun (held_table h₂) v a.any b.any) (Ok k)
-          → Trebled (held_table h₀) (held_table h₃) h (record { zero = i; one = j; any = k })
-      three_made k z = made_three next_1 next_2 (made_next h₂ h₃ ok.any next_2.added (third_in h) k z)
+      pub three_made : {h₃ : Held} {k : ℕ} → Makes h₂ h₃ (node_fun (held_table h₂) v a.any b.any) (Ok k)
+          → Trebled (held_table h₀) (held_table h₃) (three h₀ v a b) (record { zero = i; one = j; any = k })
+      three_made {h₃} {k} z = made_three next_1 next_2 (made_next h₂ h₃ ok.any next_2.added (third_in (three h₀ v a b)) k z)
 
 -- a function that ends early: m is left full, and r is the answer
 pub stopped_three : {s : Store} (m : Manager) {h : Funs} (r : Result Trio Full) → IsErr r → Keeps s (store m true) → Lacks s.table (table_of m) (listed h)
@@ -197,8 +197,8 @@ module _ (v f : ℕ) (in_range : v ≤ last_level) where
   asked_entry = omega arith
 
 -- what is made may be remembered
-pub three_recalled : (t t' : Table) (v f : ℕ) (h : Funs) (r : Trio) → MeantThree t v f h → Trebled t t' h r → Recalls t' (quantifying v f) r.zero r.one r.any
-three_recalled t t' v f h r m x =
+pub three_recalled : {t t' : Table} {v f : ℕ} {h : Funs} {r : Trio} → MeantThree t v f h → Trebled t t' h r → Recalls t' (quantifying v f) r.zero r.one r.any
+three_recalled {t} {t'} {v} {f} {h} {r} m x =
     let same = den_extends t x.added.began t' x.added.extends f m.used in
     let longer = x.added.extends.longer in
     let u = m.used in
@@ -251,55 +251,47 @@ module _ (v : ℕ) (F : Fun) where
 -- ---- an entry that does not read v, or has it on top
 
 -- an entry with a level fixed that it may have on top
-module _ (t : Table) (v f : ℕ) (ok : Quantifiable t v f) (top : v ≤ level_of t f) (i : ℕ) where
+module _ {t : Table} {v f : ℕ} (ok : Quantifiable t v f) (top : v ≤ level_of t f) {i : ℕ} where
   pub low_fixed : i ≡ cofactor_of t.level t.low f v → Cofactor t f v false i
   low_fixed e = subst (Cofactor t f v false) (sym e) (cofactor t ok.formed f ok.used false v ok.in_range top)
 
   pub high_fixed : i ≡ cofactor_of t.level t.high f v → Cofactor t f v true i
   high_fixed e = subst (Cofactor t f v true) (sym e) (cofactor t ok.formed f ok.used true v ok.in_range top)
 
-module _ (t : Table) (v f : ℕ) (ok : Quantifiable t v f) where
-  abbrev F : Fun
-  F = den t f
-
-  none_added : Added t t (listed (results_of v F))
-  none_added = added_none t (listed (results_of v F)) ok.formed
-
-  pub settle_deeper : v < level_of t f → Trebled t t (results_of v F) (record { zero = f; one = f; any = f })
+module _ {t : Table} {v f : ℕ} (ok : Quantifiable t v f) where
+  pub settle_deeper : v < level_of t f → Trebled t t (results_of v (den t f)) (record { zero = f; one = f; any = f })
   unfolding fixed
   settle_deeper h =
-      let at : (b : Bool) → F ≡ fixed v b F = λ b. fun_ext (λ a. sym (from_put (den_from t ok.formed f ok.used) h b a)) in
+      let at : (b : Bool) → den t f ≡ fixed v b (den t f) = λ b. fun_ext (λ a. sym (from_put (den_from t ok.formed f ok.used) h b a)) in
       record {
-        added = none_added;
+        added = added_none t (listed (results_of v (den t f))) ok.formed;
         zero = (ok.used, at false);
         one = (ok.used, at true);
-        any = (ok.used, exists_same v F (at false) (at true));
+        any = (ok.used, exists_same v (den t f) (at false) (at true));
       }
 
-  module _ (z w : ℕ) (low : Cofactor t f v false z) (high : Cofactor t f v true w) where
-    pub settle_operands : Operands t Or z w
-    settle_operands = record { formed = ok.formed; known = tt; left = low.used; right = high.used }
-
-    settle_fun : operation Or (den t z) (den t w) ≡ exists v F
+  module _ {z w : ℕ} (low : Cofactor t f v false z) (high : Cofactor t f v true w) where
+    settle_fun : operation Or (den t z) (den t w) ≡ exists v (den t f)
     unfolding exists
     settle_fun = ap₂ either low.stands high.stands
 
-    settle_within : Within (operation Or (den t z) (den t w) ∷ []) (listed (results_of v F))
-    settle_within = subst (λ (h : Fun). Within (h ∷ []) (listed (results_of v F))) (sym settle_fun)
-        (within_some (exists v F) (listed (results_of v F)) (third_in (results_of v F)))
+    settle_within : Within (operation Or (den t z) (den t w) ∷ []) (listed (results_of v (den t f)))
+    settle_within = subst (λ (h : Fun). Within (h ∷ []) (listed (results_of v (den t f)))) (sym settle_fun)
+        (within_some (exists v (den t f)) (listed (results_of v (den t f))) (third_in (results_of v (den t f))))
 
-    pub settle_joined : (t' : Table) (i : ℕ) → Built t t' (operation Or (den t z) (den t w)) i → Trebled t t' (results_of v F) (record { zero = z; one = w; any = i })
-    settle_joined t' i b =
+    pub settle_joined : {t' : Table} {i : ℕ} → Built t t' (operation Or (den t z) (den t w)) i
+        → Trebled t t' (results_of v (den t f)) (record { zero = z; one = w; any = i })
+    settle_joined b =
         let kept = entry_kept ok.formed b.grown.extends in
         record {
           added = added_within settle_within (grows_built ok.formed b).added;
-          zero = kept z (fixed v false F) (low.used, low.stands);
-          one = kept w (fixed v true F) (high.used, high.stands);
+          zero = kept z (fixed v false (den t f)) (low.used, low.stands);
+          one = kept w (fixed v true (den t f)) (high.used, high.stands);
           any = (b.found, b.stands ∙ settle_fun);
         }
 
-    pub settle_lacks : (t' : Table) → Short t t' (operation Or (den t z) (den t w)) → Lacks t t' (listed (results_of v F))
-    settle_lacks t' x = lacks_within settle_within (lacks_short ok.formed x)
+    pub settle_lacks : {t' : Table} → Short t t' (operation Or (den t z) (den t w)) → Lacks t t' (listed (results_of v (den t f)))
+    settle_lacks x = lacks_within settle_within (lacks_short ok.formed x)
 
 -- ---- the recursion
 
@@ -323,9 +315,9 @@ trebled_same : {t t' : Table} {g h : Funs} (r : Trio) → g ≡ h → Trebled t 
 trebled_same {t} {t'} r e = subst (λ (k : Funs). Trebled t t' k r) e
 
 -- the results that the memory has
-pub quantify_recalled : (t : Table) (v f : ℕ) → Quantifiable t v f → (memo : List ℕ) → Remembered t memo → (r : Trio) → RecalledThree memo (quantifying v f) (Some r)
+pub quantify_recalled : {t : Table} {v f : ℕ} → Quantifiable t v f → (memo : List ℕ) → Remembered t memo → (r : Trio) → RecalledThree memo (quantifying v f) (Some r)
     → Trebled t t (results_of v (den t f)) r
-quantify_recalled t v f ok memo m r h =
+quantify_recalled {t} {v} {f} ok memo m r h =
     let x = recalls t memo (quantifying v f) r.zero r.one r.any m h in
     let q = subst₂ (λ (w k : ℕ). Quantified t w k r.zero r.one r.any) (asked_level v f ok.in_range) (asked_entry v f ok.in_range) (x.quantified (omega arith)) in
     record {
@@ -368,10 +360,10 @@ module _ {t : Table} {v f l f0 f1 : ℕ} (sp : Above t v f l f0 f1) where
   within_low : Within (listed (results_of v (den t f0))) (listed H)
   within_low = subst (λ (F : Fun). Within (listed (results_of v F)) (listed H)) (sym sp.low.stands) (within_fixed v (den t f) l differ false from)
 
-  pub quantify_short_1 : (t₁ : Table) → Lacks t t₁ (listed (results_of v (den t f0))) → Lacks t t₁ (listed H)
-  quantify_short_1 t₁ x = lacks_within within_low x
+  pub quantify_short_1 : {t₁ : Table} → Lacks t t₁ (listed (results_of v (den t f0))) → Lacks t t₁ (listed H)
+  quantify_short_1 x = lacks_within within_low x
 
-  module _ (t₁ : Table) (a : Trio) (first : Trebled t t₁ (results_of v (den t f0)) a) where
+  module _ {t₁ : Table} {a : Trio} (first : Trebled t t₁ (results_of v (den t f0)) a) where
     pub quantify_high : Quantifiable t₁ v f1
     quantify_high =
         let x = first.added.extends.longer in
@@ -384,10 +376,10 @@ module _ {t : Table} {v f l f0 f1 : ℕ} (sp : Above t v f l f0 f1) where
     within_high : Within (listed (results_of v (den t₁ f1))) (listed H)
     within_high = subst (λ (F : Fun). Within (listed (results_of v F)) (listed H)) (sym high_same) (within_fixed v (den t f) l differ true from)
 
-    pub quantify_short_2 : (t₂ : Table) → Lacks t₁ t₂ (listed (results_of v (den t₁ f1))) → Lacks t t₂ (listed H)
-    quantify_short_2 t₂ x = lacks_after within_low within_high first.added x
+    pub quantify_short_2 : {t₂ : Table} → Lacks t₁ t₂ (listed (results_of v (den t₁ f1))) → Lacks t t₂ (listed H)
+    quantify_short_2 x = lacks_after within_low within_high first.added x
 
-    module _ (t₂ : Table) (b : Trio) (second : Trebled t₁ t₂ (results_of v (den t₁ f1)) b) where
+    module _ {t₂ : Table} {b : Trio} (second : Trebled t₁ t₂ (results_of v (den t₁ f1)) b) where
       -- the six entries in t₂
       low_entry : (i : ℕ) (h : Fun → Fun) (K : Fun) → h (fixed l false (den t f)) ≡ fixed l false K → Entry t₁ i (h (den t f0)) → Entry t₂ i (fixed l false K)
       low_entry i h K e x =

@@ -44,6 +44,7 @@ pub(crate) struct Halves {
 
 impl<'packed, 'high, 'work> Manager<'packed, 'high, 'work> {
     // The level of an entry in use.
+    #[tactic(auto, using(crate::proofs::Parting::levels_length, crate::proofs::Starting::level_byte))]
     fn level(&self, f: u32) -> u8
         requires { f < self.now.used }
         ensures { result ≡ level_of (table_of self.now) f }
@@ -52,6 +53,7 @@ impl<'packed, 'high, 'work> Manager<'packed, 'high, 'work> {
     }
 
     // f with level v, at most its own, fixed to each bit.
+    #[tactic(auto, using(crate::proofs::Parting::levels_length))]
     fn halves(&self, v: u8, f: u32) -> Halves
         requires quantifiable { Quantifiable (table_of self.now) v f }
         requires top { v ≤ level_of (table_of self.now) f }
@@ -65,6 +67,7 @@ impl<'packed, 'high, 'work> Manager<'packed, 'high, 'work> {
     }
 
     // The results of ∃v f, where slot s of the memory has them.
+    #[tactic(auto, using(crate::proofs::Holding::work_holds))]
     fn recall_three(&self, s: usize, v: u8, f: u32) -> Option<Trio>
         requires { (v ≤ last_level) × (f < max_length) }
         ensures { RecalledThree (memo_in self.now.work.now) (quantifying v f) result }

@@ -9,73 +9,55 @@ use Rattle.nodes.proofs.manager.Manager.+quantify.Goals as goal
 
 pub returns-in-Some : goal.returns-in-Some
 returns-in-Some u c =
-    let a = c.args in
-    let m = a.self.now in
-    record {
-      kept = keeps_none;
-      answers = quantify_recalled (table_of m) a.v a.f c.requires (memo_in m.work.now) m.helping.remembered c.in-Some.r c.in-Some.ensures;
-    }
+    let m = c.args.self.now in
+    record { kept = keeps_none; answers = quantify_recalled c.requires (memo_in m.work.now) m.helping.remembered c.in-Some.r c.in-Some.ensures }
 
 pub quantify-requires : goal.quantify-requires
 quantify-requires u c =
-    let a = c.args in
-    let x : Above (table_of a.self.now) a.v a.f c.level-l.result c.halves-c.result.low c.halves-c.result.high =
+    let x : Above (table_of c.args.self.now) c.args.v c.args.f c.level-l.result c.halves-c.result.low c.halves-c.result.high =
     record { ok = c.requires; top = c.level-l.ensures; above = c.if-v-l.false; low = c.halves-c.ensures.low; high = c.halves-c.ensures.high } in
     (subst (λ (n : ℕ). c.halves-c.result.low < n) c.decreases (falls_low x), quantify_low x)
 
 pub returns-in_err-a : goal.returns-in_err-a
 returns-in_err-a u c =
-    let a = c.args in
-    let x : Above (table_of a.self.now) a.v a.f c.level-l.result c.halves-c.result.low c.halves-c.result.high =
+    let x : Above (table_of c.args.self.now) c.args.v c.args.f c.level-l.result c.halves-c.result.low c.halves-c.result.high =
     record { ok = c.requires; top = c.level-l.ensures; above = c.if-v-l.false; low = c.halves-c.ensures.low; high = c.halves-c.ensures.high } in
-    let m₁ = c.quantify.new.self in
     let y = c.in_err-a.ensures in
-    stopped_three m₁ c.from_residual.result c.from_residual.ensures.0 y.kept (quantify_short_1 x (table_of m₁) y.answers)
+    let r = c.from_residual in
+    stopped_three c.quantify.new.self r.result r.ensures.0 y.kept (quantify_short_1 x y.answers)
 
 pub quantify-requires-2 : goal.quantify-requires-2
 quantify-requires-2 u c =
-    let a = c.args in
-    let x : Above (table_of a.self.now) a.v a.f c.level-l.result c.halves-c.result.low c.halves-c.result.high =
+    let x : Above (table_of c.args.self.now) c.args.v c.args.f c.level-l.result c.halves-c.result.low c.halves-c.result.high =
     record { ok = c.requires; top = c.level-l.ensures; above = c.if-v-l.false; low = c.halves-c.ensures.low; high = c.halves-c.ensures.high } in
-    (
-      subst (λ (n : ℕ). c.halves-c.result.high < n) c.decreases (falls_high x),
-      quantify_high x (table_of c.quantify.new.self) c.in_ok-a.a c.in_ok-a.ensures.answers,
-    )
+    (subst (λ (n : ℕ). c.halves-c.result.high < n) c.decreases (falls_high x), quantify_high x c.in_ok-a.ensures.answers)
 
 pub returns-in_err-b : goal.returns-in_err-b
 returns-in_err-b u c =
-    let a = c.args in
-    let x : Above (table_of a.self.now) a.v a.f c.level-l.result c.halves-c.result.low c.halves-c.result.high =
+    let x : Above (table_of c.args.self.now) c.args.v c.args.f c.level-l.result c.halves-c.result.low c.halves-c.result.high =
     record { ok = c.requires; top = c.level-l.ensures; above = c.if-v-l.false; low = c.halves-c.ensures.low; high = c.halves-c.ensures.high } in
     let y = c.in_ok-a.ensures in
-    let m₂ = c.quantify-2.new.self in
     let z = c.in_err-b.ensures in
     let r = c.from_residual-in_err-b in
-    stopped_three m₂ r.result r.ensures.0 (keeps_then y.kept z.kept) (quantify_short_2 x (table_of c.quantify.new.self) c.in_ok-a.a y.answers (table_of m₂) z.answers)
+    stopped_three c.quantify-2.new.self r.result r.ensures.0 (keeps_then y.kept z.kept) (quantify_short_2 x y.answers z.answers)
 
 pub finish_three-requires-clause-makeable : goal.finish_three-requires-clause-makeable
 finish_three-requires-clause-makeable u c =
-    let a = c.args in
-    let x : Above (table_of a.self.now) a.v a.f c.level-l.result c.halves-c.result.low c.halves-c.result.high =
+    let x : Above (table_of c.args.self.now) c.args.v c.args.f c.level-l.result c.halves-c.result.low c.halves-c.result.high =
     record { ok = c.requires; top = c.level-l.ensures; above = c.if-v-l.false; low = c.halves-c.ensures.low; high = c.halves-c.ensures.high } in
-    quantify_makeable x (table_of c.quantify.new.self) c.in_ok-a.a c.in_ok-a.ensures.answers (table_of c.quantify-2.new.self) c.in_ok-b.b c.in_ok-b.ensures.answers
+    quantify_makeable x c.in_ok-a.ensures.answers c.in_ok-b.ensures.answers
 
 pub finish_three-requires-clause-meant : goal.finish_three-requires-clause-meant
 finish_three-requires-clause-meant u c =
-    let a = c.args in
-    let x : Above (table_of a.self.now) a.v a.f c.level-l.result c.halves-c.result.low c.halves-c.result.high =
+    let x : Above (table_of c.args.self.now) c.args.v c.args.f c.level-l.result c.halves-c.result.low c.halves-c.result.high =
     record { ok = c.requires; top = c.level-l.ensures; above = c.if-v-l.false; low = c.halves-c.ensures.low; high = c.halves-c.ensures.high } in
-    quantify_meant x (table_of c.quantify.new.self) c.in_ok-a.a c.in_ok-a.ensures.answers (table_of c.quantify-2.new.self) c.in_ok-b.b c.in_ok-b.ensures.answers
+    quantify_meant x c.in_ok-a.ensures.answers c.in_ok-b.ensures.answers
 
 pub returns : goal.returns
 returns u c =
-    let a = c.args in
-    let x : Above (table_of a.self.now) a.v a.f c.level-l.result c.halves-c.result.low c.halves-c.result.high =
+    let x : Above (table_of c.args.self.now) c.args.v c.args.f c.level-l.result c.halves-c.result.low c.halves-c.result.high =
     record { ok = c.requires; top = c.level-l.ensures; above = c.if-v-l.false; low = c.halves-c.ensures.low; high = c.halves-c.ensures.high } in
     let y = c.in_ok-a.ensures in
     let z = c.in_ok-b.ensures in
     let w = c.finish_three in
-    record {
-      kept = keeps_then y.kept (keeps_then z.kept w.ensures.kept);
-      answers = quantify_answers x (table_of c.quantify.new.self) c.in_ok-a.a y.answers (table_of c.quantify-2.new.self) c.in_ok-b.b z.answers (table_of w.new.self) w.result w.ensures.answers;
-    }
+    record { kept = keeps_then y.kept (keeps_then z.kept w.ensures.kept); answers = quantify_answers x y.answers z.answers (table_of w.new.self) w.result w.ensures.answers }
