@@ -1,8 +1,10 @@
 -- ∃ of a level by one recursion, over its three functions. Assumes nothing.
---     made_next, made_three     three nodes that are made one after the other
+--     three_..                  three nodes that are made one after the other
+--     three_recalled            what the memory has of them
+--     stopped_three             a function that ends early
 --     settle-..                 ∃ of an entry that does not read the level, or has it on top
 --     quantify-..               the recursion: each call's operand, and each way out
---     exists_maps               the answer, as a step of a formula
+--     maps_exists               the answer, as a step of a formula
 use mathlib.Core.Path.{◌≡◌, refl, sym, ap, ap₂, ◌∙◌, fun_ext, subst, subst₂}
 use mathlib.Core.Logic.{⊎_elim}
 use mathlib.Core.Bool.{Bool, true, false, ◌||◌}
@@ -10,30 +12,26 @@ use mathlib.Core.List.Memᴰ
 use mathlib.Core.List.{List, [], ◌∷◌, Memᴰ}
 use Prim.Native.Nat.{ℕ, suc, ◌<◌, ◌≤◌}
 use native.Mathlib.Omega.{arith}
-use lib.ListN.{length}
-use Rattle.nodes.specs.declared.unique.Made.TheVariants as made
+use Rattle.std.specs.Prelude.{Some, Result, Ok, Err, IsErr, is_err}
+use Rattle.nodes.specs.declared.apply.Operation.TheVariants.{Or}
+use Rattle.nodes.specs.declared.manager.Full.{Full}
+use Rattle.nodes.specs.declared.manager.Manager.{Manager}
 use Rattle.nodes.specs.declared.quantify.Trio.{Trio}
-use Rattle.nodes.specs.declared.quantify.Three.{Three}
-use Rattle.nodes.specs.declared.quantify.Three.TheVariants as three
-use Rattle.nodes.specs.declared.quantify.Held.TheVariants as held
 use Rattle.nodes.specs.Fun.{Fun, either, fixed, exists, Part, From}
-use Rattle.nodes.specs.Formula.{some, value}
+use Rattle.nodes.specs.Formula.{some}
 use Rattle.nodes.specs.Table.{Table, last_level, level_of, choice, den, WellFormed, Entry}
-use Rattle.nodes.specs.internal.Growth.{Extends}
-use Rattle.nodes.specs.internal.Packed.{levels, lows, packed_table}
-use Rattle.nodes.specs.internal.Parts.{heads_in, links_in, memo_in}
-use Rattle.nodes.specs.internal.Index.{Indexed}
-use Rattle.nodes.specs.internal.Make.{Makeable, node_fun, Making}
-use Rattle.nodes.specs.internal.Operate.{operation, Operands, cofactor_of, Cofactor, Quantified, quantifying, Recalls, Remembered, Stores, Keeping, Operating, quantified_level, quantified_entry}
-use Rattle.nodes.specs.internal.Work.{Added, Has, Lacks, Store, store, room_of, Ready, Keeps, After, Does, grew, filled, Stands, Maps}
-use Rattle.nodes.specs.internal.Quantify.{Funs, listed, results_of, Trebled, Quantifiable, MakeableThree, node_funs, RecalledThree, LacksThree, MakingThree, FinishingThree, Quantifying, any_of}
+use Rattle.nodes.specs.internal.Growth.{Extends, Built, Short, Answers}
+use Rattle.nodes.specs.internal.Make.{Makeable, node_fun, Held, held_table, Makes}
+use Rattle.nodes.specs.internal.Lent.{table_of, store, leaving}
+use Rattle.nodes.specs.internal.Operate.{operation, cofactor_of, Cofactor, Quantified, quantifying, Recalls, Remembered, quantified_level, quantified_entry}
+use Rattle.nodes.specs.internal.Work.{Added, Has, Lacks, Store, Keeps, Does, grew, filled, Stands, Maps}
+use Rattle.nodes.specs.internal.Quantify.{Funs, listed, results_of, Trebled, Quantifiable, MakeableThree, node_funs, RecalledThree, MeantThree, Trebles, Trebling}
 use Rattle.nodes.proofs.Funs.{shannon, from_put, from_fixed, part_fixed, part_refl}
-use Rattle.nodes.proofs.Parting.{levels_length}
 use Rattle.nodes.proofs.Tables.{den_from, den_extends}
 use Rattle.nodes.proofs.Making.{answered}
 use Rattle.nodes.proofs.Stepping.{level_above}
-use Rattle.nodes.proofs.Operating.{cofactor, operation_or, put_put, from_fixed_at}
-use Rattle.nodes.proofs.Memory.{recalls, remembered_extends, remembered_stores}
+use Rattle.nodes.proofs.Operating.{cofactor, put_put, from_fixed_at}
+use Rattle.nodes.proofs.Memory.{recalls}
 use Rattle.nodes.proofs.Working.{Within, added_none, added_then, added_within, lacks_within, grows_built, lacks_short, contrary, does_then, used_one}
 
 -- ---- lists of three functions
@@ -87,7 +85,7 @@ pub record Next (t t₁ t₂ : Table) (fs : List Fun) (h : Fun) (i : ℕ) : Type
   pub kept : (k : ℕ) (f : Fun) → Entry t₁ k f → Entry t₂ k f
 
 module _ {t t₁ : Table} {fs : List Fun} {v lo hi : ℕ} (ok : Makeable t v lo hi) (added : Added t t₁ fs) where
-  pub makeable_kept : Makeable t₁ v lo hi
+  makeable_kept : Makeable t₁ v lo hi
   makeable_kept =
       let x = added.extends in
       let l = x.longer in
@@ -109,27 +107,33 @@ module _ {t t₁ : Table} {fs : List Fun} {v lo hi : ℕ} (ok : Makeable t v lo 
   same_fun : node_fun t₁ v lo hi ≡ node_fun t v lo hi
   same_fun = let same = den_extends t added.began t₁ added.extends in ap₂ (choice v) (same hi ok.high_used) (same lo ok.low_used)
 
-  module _ (inside : Memᴰ (node_fun t v lo hi) fs) (packed high work work' : List ℕ) where
-    within_same_fun : Within (node_fun t₁ v lo hi ∷ []) fs
-    within_same_fun = subst (λ (h : Fun). Within (h ∷ []) fs) (sym same_fun) (within_some (node_fun t v lo hi) fs inside)
+-- a node that is made from the lists h₁, which leaves h₂
+module _ (h₁ h₂ : Held) {t : Table} {fs : List Fun} {v lo hi : ℕ} (ok : Makeable t v lo hi) (added : Added t (held_table h₁) fs) (inside : Memᴰ (node_fun t v lo hi) fs) where
+  abbrev makes : Result ℕ Full → Type 0
+  makes r = Makes h₁ h₂ (node_fun (held_table h₁) v lo hi) r
 
-    within_fs : Within fs fs
-    within_fs f m = (f, m, part_refl f)
+  answers : (r : Result ℕ Full) → makes r → Answers (held_table h₁) (held_table h₂) (node_fun (held_table h₁) v lo hi) r
+  answers r x = answered h₁ h₂ v lo hi (makeable_kept ok added) r x
 
-    pub made_next : (i n : ℕ) → Making t₁ packed high work work' (node_fun t₁ v lo hi) (made.At i n) → Next t t₁ (packed_table packed high n) fs (node_fun t v lo hi) i
-    made_next i n x =
-        let b = x.0.0.built in
-        record {
-          added = added_then within_fs within_same_fun added (grows_built added.formed b).added;
-          entry = (b.found, b.stands ∙ same_fun);
-          kept = entry_kept added.formed b.grown.extends;
-        }
+  within_same_fun : Within (node_fun (held_table h₁) v lo hi ∷ []) fs
+  within_same_fun = subst (λ (h : Fun). Within (h ∷ []) fs) (sym (same_fun ok added)) (within_some (node_fun t v lo hi) fs inside)
 
-    pub made_lacks : Making t₁ packed high work work' (node_fun t₁ v lo hi) made.Full → Lacks t (packed_table packed high (length (levels packed))) fs
-    made_lacks x = lacks_after within_fs within_same_fun added
-        (lacks_short added.formed (answered t₁ v lo hi makeable_kept (levels packed) (lows packed) high (heads_in work') (links_in work') made.Full x.0))
+  within_fs : Within fs fs
+  within_fs f m = (f, m, part_refl f)
 
-pub made_three : {t t₁ t₂ t₃ : Table} {h : Funs} {i j k : ℕ} → Next t t t₁ (listed h) h.zero i → Next t t₁ t₂ (listed h) h.one j
+  made_next : (i : ℕ) → makes (Ok i) → Next t (held_table h₁) (held_table h₂) fs (node_fun t v lo hi) i
+  made_next i x =
+      let b = answers (Ok i) x in
+      record {
+        added = added_then within_fs within_same_fun added (grows_built added.formed b).added;
+        entry = (b.found, b.stands ∙ same_fun ok added);
+        kept = entry_kept added.formed b.grown.extends;
+      }
+
+  made_lacks : (e : Full) → makes (Err e) → Lacks t (held_table h₂) fs
+  made_lacks e x = lacks_after within_fs within_same_fun added (lacks_short added.formed (answers (Err e) x))
+
+made_three : {t t₁ t₂ t₃ : Table} {h : Funs} {i j k : ℕ} → Next t t t₁ (listed h) h.zero i → Next t t₁ t₂ (listed h) h.one j
     → Next t t₂ t₃ (listed h) h.any k → Trebled t t₃ h (record { zero = i; one = j; any = k })
 made_three {h = h} {i} {j} x y z = record {
   added = z.added;
@@ -138,14 +142,79 @@ made_three {h = h} {i} {j} x y z = record {
   any = z.entry;
 }
 
--- three nodes that are made, and remembered
-pub finished_three : (t : Table) (packed high work work₁ work₂ : List ℕ) (h : Funs) (o : ℕ) (r : Trio) (n : ℕ) → MakingThree t packed high work work₁ h (three.At r n)
-    → Keeping work₁ o r.zero r.one r.any work₂ → FinishingThree t packed high work work₂ h o (three.At r n)
-finished_three t packed high work work₁ work₂ h o r n m k = (
-  m.0,
-  subst₂ (Indexed (packed_table packed high n)) (sym k.1) (sym k.2) m.1,
-  subst (λ (l : List ℕ). Stores l o r.zero r.one r.any (memo_in work₂)) m.2 k.0,
-)
+-- three nodes from the lists h₀, which leave h₁, h₂ and h₃ in turn
+abbrev three : Held → ℕ → Trio → Trio → Funs
+three h₀ v a b = node_funs (held_table h₀) v a b
+
+none_yet : {t : Table} {v : ℕ} {a b : Trio} → MakeableThree t v a b → Added t t (listed (node_funs t v a b))
+none_yet {t} {v} {a} {b} ok = added_none t (listed (node_funs t v a b)) ok.zero.formed
+
+module _ {h₀ h₁ : Held} {v : ℕ} {a b : Trio} (ok : MakeableThree (held_table h₀) v a b) where
+  pub three_lacks_1 : {e : Full} → Makes h₀ h₁ (node_fun (held_table h₀) v a.zero b.zero) (Err e) → Lacks (held_table h₀) (held_table h₁) (listed (three h₀ v a b))
+  three_lacks_1 {e} = made_lacks h₀ h₁ ok.zero (none_yet ok) (first_in (three h₀ v a b)) e
+
+  module _ {i : ℕ} (x : Makes h₀ h₁ (node_fun (held_table h₀) v a.zero b.zero) (Ok i)) where
+    next_1 : Next (held_table h₀) (held_table h₀) (held_table h₁) (listed (three h₀ v a b)) (node_fun (held_table h₀) v a.zero b.zero) i
+    next_1 = made_next h₀ h₁ ok.zero (none_yet ok) (first_in (three h₀ v a b)) i x
+
+    pub three_lacks_2 : {h₂ : Held} {e : Full} → Makes h₁ h₂ (node_fun (held_table h₁) v a.one b.one) (Err e) → Lacks (held_table h₀) (held_table h₂) (listed (three h₀ v a b))
+    three_lacks_2 {h₂} {e} = made_lacks h₁ h₂ ok.one next_1.added (second_in (three h₀ v a b)) e
+
+    module _ {h₂ : Held} {j : ℕ} (y : Makes h₁ h₂ (node_fun (held_table h₁) v a.one b.one) (Ok j)) where
+      next_2 : Next (held_table h₀) (held_table h₁) (held_table h₂) (listed (three h₀ v a b)) (node_fun (held_table h₀) v a.one b.one) j
+      next_2 = made_next h₁ h₂ ok.one next_1.added (second_in (three h₀ v a b)) j y
+
+      -- the ∨ is the first of them
+      pub three_joined : a.any ≡ a.zero → b.any ≡ b.zero → Trebled (held_table h₀) (held_table h₂) (three h₀ v a b) (record { zero = i; one = j; any = i })
+      three_joined d e =
+          let same : (three h₀ v a b).zero ≡ (three h₀ v a b).any = ap₂ (node_fun (held_table h₀) v) (sym d) (sym e) in
+          made_three next_1 next_2 (record {
+            added = next_2.added;
+            entry = subst (Entry (held_table h₂) i) same (next_2.kept i _ next_1.entry);
+            kept = λ k f z. z;
+          })
+
+      pub three_lacks_3 : {h₃ : Held} {e : Full} → Makes h₂ h₃ (node_fun (held_table h₂) v a.any b.any) (Err e) → Lacks (held_table h₀) (held_table h₃) (listed (three h₀ v a b))
+      three_lacks_3 {h₃} {e} = made_lacks h₂ h₃ ok.any next_2.added (third_in (three h₀ v a b)) e
+
+      pub three_made : {h₃ : Held} {k : ℕ} → Makes h₂ h₃ (node_fun (held_table h₂) v a.any b.any) (Ok k)
+          → Trebled (held_table h₀) (held_table h₃) (three h₀ v a b) (record { zero = i; one = j; any = k })
+      three_made {h₃} {k} z = made_three next_1 next_2 (made_next h₂ h₃ ok.any next_2.added (third_in (three h₀ v a b)) k z)
+
+-- a function that ends early: m is left full, and r is the answer
+pub stopped_three : {s : Store} (m : Manager) {h : Funs} (r : Result Trio Full) → IsErr r → Keeps s (store m true) → Lacks s.table (table_of m) (listed h)
+    → Trebling s (leaving m r) h r
+stopped_three m (Ok i) e k x = contrary e refl
+stopped_three m (Err d) e k x = record { kept = k; answers = x }
+
+-- ---- the memory of results
+
+module _ (v f : ℕ) (in_range : v ≤ last_level) where
+  asked_level : quantified_level (quantifying v f) ≡ v
+  asked_level = omega arith
+
+  asked_entry : quantified_entry (quantifying v f) ≡ f
+  asked_entry = omega arith
+
+-- what is made may be remembered
+pub three_recalled : {t t' : Table} {v f : ℕ} {h : Funs} {r : Trio} → MeantThree t v f h → Trebled t t' h r → Recalls t' (quantifying v f) r.zero r.one r.any
+three_recalled {t} {t'} {v} {f} {h} {r} m x =
+    let same = den_extends t x.added.began t' x.added.extends f m.used in
+    let longer = x.added.extends.longer in
+    let u = m.used in
+    let q : Quantified t' v f r.zero r.one r.any = record {
+      operand = omega arith;
+      zero = x.zero.1 ∙ m.zero ∙ ap (fixed v false) (sym same);
+      one = x.one.1 ∙ m.one ∙ ap (fixed v true) (sym same);
+      any = x.any.1 ∙ m.any ∙ ap (exists v) (sym same);
+    } in
+    record {
+      left = x.zero.0;
+      right = x.one.0;
+      found = x.any.0;
+      stands = λ h. absurd (omega arith);
+      quantified = λ h. subst₂ (λ (w k : ℕ). Quantified t' w k r.zero r.one r.any) (sym (asked_level v f m.in_range)) (sym (asked_entry v f m.in_range)) q;
+    }
 
 -- ---- the results of ∃v F
 
@@ -182,60 +251,47 @@ module _ (v : ℕ) (F : Fun) where
 -- ---- an entry that does not read v, or has it on top
 
 -- an entry with a level fixed that it may have on top
-module _ (t : Table) (v f : ℕ) (ok : Quantifiable t v f) (l : ℕ) (most : l ≤ last_level) (top : l ≤ level_of t f) where
-  pub low_fixed : (i : ℕ) → i ≡ cofactor_of t.level t.low f l → Cofactor t f l false i
-  low_fixed i e = subst (Cofactor t f l false) (sym e) (cofactor t ok.formed f ok.used false l most top)
+module _ {t : Table} {v f : ℕ} (ok : Quantifiable t v f) (top : v ≤ level_of t f) {i : ℕ} where
+  pub low_fixed : i ≡ cofactor_of t.level t.low f v → Cofactor t f v false i
+  low_fixed e = subst (Cofactor t f v false) (sym e) (cofactor t ok.formed f ok.used false v ok.in_range top)
 
-  pub high_fixed : (i : ℕ) → i ≡ cofactor_of t.level t.high f l → Cofactor t f l true i
-  high_fixed i e = subst (Cofactor t f l true) (sym e) (cofactor t ok.formed f ok.used true l most top)
+  pub high_fixed : i ≡ cofactor_of t.level t.high f v → Cofactor t f v true i
+  high_fixed e = subst (Cofactor t f v true) (sym e) (cofactor t ok.formed f ok.used true v ok.in_range top)
 
-module _ (t : Table) (v f : ℕ) (ok : Quantifiable t v f) where
-  abbrev F : Fun
-  F = den t f
-
-  none_added : Added t t (listed (results_of v F))
-  none_added = added_none t (listed (results_of v F)) ok.formed
-
-  pub settle_deeper : v < level_of t f → Trebled t t (results_of v F) (record { zero = f; one = f; any = f })
+module _ {t : Table} {v f : ℕ} (ok : Quantifiable t v f) where
+  pub settle_deeper : v < level_of t f → Trebled t t (results_of v (den t f)) (record { zero = f; one = f; any = f })
   unfolding fixed
   settle_deeper h =
-      let at : (b : Bool) → F ≡ fixed v b F = λ b. fun_ext (λ a. sym (from_put (den_from t ok.formed f ok.used) h b a)) in
+      let at : (b : Bool) → den t f ≡ fixed v b (den t f) = λ b. fun_ext (λ a. sym (from_put (den_from t ok.formed f ok.used) h b a)) in
       record {
-        added = none_added;
+        added = added_none t (listed (results_of v (den t f))) ok.formed;
         zero = (ok.used, at false);
         one = (ok.used, at true);
-        any = (ok.used, exists_same v F (at false) (at true));
+        any = (ok.used, exists_same v (den t f) (at false) (at true));
       }
 
-  module _ (z w : ℕ) (low : Cofactor t f v false z) (high : Cofactor t f v true w) where
-    pub settle_operands : Operands t 1 z w
-    settle_operands = record { formed = ok.formed; known = omega arith; left = low.used; right = high.used }
-
-    settle_fun : operation 1 (den t z) (den t w) ≡ exists v F
+  module _ {z w : ℕ} (low : Cofactor t f v false z) (high : Cofactor t f v true w) where
+    settle_fun : operation Or (den t z) (den t w) ≡ exists v (den t f)
     unfolding exists
-    settle_fun = operation_or 1 refl (den t z) (den t w) ∙ ap₂ either low.stands high.stands
+    settle_fun = ap₂ either low.stands high.stands
 
-    settle_within : Within (operation 1 (den t z) (den t w) ∷ []) (listed (results_of v F))
-    settle_within = subst (λ (h : Fun). Within (h ∷ []) (listed (results_of v F))) (sym settle_fun)
-        (within_some (exists v F) (listed (results_of v F)) (third_in (results_of v F)))
+    settle_within : Within (operation Or (den t z) (den t w) ∷ []) (listed (results_of v (den t f)))
+    settle_within = subst (λ (h : Fun). Within (h ∷ []) (listed (results_of v (den t f)))) (sym settle_fun)
+        (within_some (exists v (den t f)) (listed (results_of v (den t f))) (third_in (results_of v (den t f))))
 
-    pub settle_joined : (packed' high' work' : List ℕ) (i n : ℕ) → Operating t packed' high' work' (operation 1 (den t z) (den t w)) (made.At i n)
-        → Quantifying t packed' high' work' v F (three.At (record { zero = z; one = w; any = i }) n)
-    settle_joined packed' high' work' i n x =
-        let b = x.0 in
-        let kept = entry_kept ok.formed b.grown.extends in (
-          record {
-            added = added_within settle_within (grows_built ok.formed b).added;
-            zero = kept z (fixed v false F) (low.used, low.stands);
-            one = kept w (fixed v true F) (high.used, high.stands);
-            any = (b.found, b.stands ∙ settle_fun);
-          },
-          x.1,
-        )
+    pub settle_joined : {t' : Table} {i : ℕ} → Built t t' (operation Or (den t z) (den t w)) i
+        → Trebled t t' (results_of v (den t f)) (record { zero = z; one = w; any = i })
+    settle_joined b =
+        let kept = entry_kept ok.formed b.grown.extends in
+        record {
+          added = added_within settle_within (grows_built ok.formed b).added;
+          zero = kept z (fixed v false (den t f)) (low.used, low.stands);
+          one = kept w (fixed v true (den t f)) (high.used, high.stands);
+          any = (b.found, b.stands ∙ settle_fun);
+        }
 
-    pub settle_lacks : (packed' high' work' : List ℕ) → Operating t packed' high' work' (operation 1 (den t z) (den t w)) made.Full
-        → LacksThree t packed' high' (results_of v F)
-    settle_lacks packed' high' work' x = lacks_within settle_within (lacks_short ok.formed x)
+    pub settle_lacks : {t' : Table} → Short t t' (operation Or (den t z) (den t w)) → Lacks t t' (listed (results_of v (den t f)))
+    settle_lacks x = lacks_within settle_within (lacks_short ok.formed x)
 
 -- ---- the recursion
 
@@ -258,167 +314,160 @@ module _ (t : Table) (wf : WellFormed t) (l : ℕ) (in_range : l ≤ last_level)
 trebled_same : {t t' : Table} {g h : Funs} (r : Trio) → g ≡ h → Trebled t t' g r → Trebled t t' h r
 trebled_same {t} {t'} r e = subst (λ (k : Funs). Trebled t t' k r) e
 
-module _ (t : Table) (v f : ℕ) (ok : Quantifiable t v f) where
+-- the results that the memory has
+pub quantify_recalled : {t : Table} {v f : ℕ} → Quantifiable t v f → (memo : List ℕ) → Remembered t memo → (r : Trio) → RecalledThree memo (quantifying v f) (Some r)
+    → Trebled t t (results_of v (den t f)) r
+quantify_recalled {t} {v} {f} ok memo m r h =
+    let x = recalls t memo (quantifying v f) r.zero r.one r.any m h in
+    let q = subst₂ (λ (w k : ℕ). Quantified t w k r.zero r.one r.any) (asked_level v f ok.in_range) (asked_entry v f ok.in_range) (x.quantified (omega arith)) in
+    record {
+      added = added_none t (listed (results_of v (den t f))) ok.formed;
+      zero = (x.left, q.zero);
+      one = (x.right, q.one);
+      any = (x.found, q.any);
+    }
+
+-- entry f has a level l above v, and f0 and f1 are f with l fixed to each bit
+pub record Above (t : Table) (v f l f0 f1 : ℕ) : Type 0 where
+  pub ok : Quantifiable t v f
+  pub top : l ≡ level_of t f
+  pub above : l < v
+  pub low : Cofactor t f l false f0
+  pub high : Cofactor t f l true f1
+
+module _ {t : Table} {v f l f0 f1 : ℕ} (sp : Above t v f l f0 f1) where
   abbrev H : Funs
   H = results_of v (den t f)
 
-  asked_level : quantified_level (quantifying v f) ≡ v
-  asked_level = let a = ok.in_range in omega arith
+  differ : l ≡ v → ⊥
+  differ e = let a = sp.above in omega arith
 
-  asked_entry : quantified_entry (quantifying v f) ≡ f
-  asked_entry = let a = ok.in_range in omega arith
+  in_range : l ≤ last_level
+  in_range = let a = sp.ok.in_range in let b = sp.above in omega arith
 
-  pub quantify_recalled : (memo : List ℕ) → Remembered t memo → (r : Trio) → RecalledThree memo (quantifying v f) (held.At r) → Trebled t t H r
-  quantify_recalled memo m r h =
-      let x = recalls t memo (quantifying v f) r.zero r.one r.any m h in
-      let q = subst₂ (λ (w k : ℕ). Quantified t w k r.zero r.one r.any) asked_level asked_entry (x.quantified (omega arith)) in
-      record {
-        added = added_none t (listed H) ok.formed;
-        zero = (x.left, q.zero);
-        one = (x.right, q.one);
-        any = (x.found, q.any);
-      }
+  from : From l (den t f)
+  from = subst (λ (k : ℕ). From k (den t f)) (sym sp.top) (den_from t sp.ok.formed f sp.ok.used)
 
-  module _ (l : ℕ) (top : l ≡ level_of t f) (above : l < v) (f0 f1 : ℕ) (low : Cofactor t f l false f0) (high : Cofactor t f l true f1) where
-    differ : l ≡ v → ⊥
-    differ e = omega arith
+  pub falls_low : f0 < f
+  falls_low = sp.low.less (sym sp.top)
 
-    in_range : l ≤ last_level
-    in_range = let a = ok.in_range in omega arith
+  pub falls_high : f1 < f
+  falls_high = sp.high.less (sym sp.top)
 
-    from : From l (den t f)
-    from = subst (λ (k : ℕ). From k (den t f)) (sym top) (den_from t ok.formed f ok.used)
+  pub quantify_low : Quantifiable t v f0
+  quantify_low = record { formed = sp.ok.formed; in_range = sp.ok.in_range; used = sp.low.used }
 
-    pub falls_low : f0 < f
-    falls_low = low.less (sym top)
+  within_low : Within (listed (results_of v (den t f0))) (listed H)
+  within_low = subst (λ (F : Fun). Within (listed (results_of v F)) (listed H)) (sym sp.low.stands) (within_fixed v (den t f) l differ false from)
 
-    pub falls_high : f1 < f
-    falls_high = high.less (sym top)
+  pub quantify_short_1 : {t₁ : Table} → Lacks t t₁ (listed (results_of v (den t f0))) → Lacks t t₁ (listed H)
+  quantify_short_1 x = lacks_within within_low x
 
-    pub quantify_low : Quantifiable t v f0
-    quantify_low = record { formed = ok.formed; in_range = ok.in_range; used = low.used }
+  module _ {t₁ : Table} {a : Trio} (first : Trebled t t₁ (results_of v (den t f0)) a) where
+    pub quantify_high : Quantifiable t₁ v f1
+    quantify_high =
+        let x = first.added.extends.longer in
+        let u = sp.high.used in
+        record { formed = first.added.formed; in_range = sp.ok.in_range; used = omega arith }
 
-    within_low : Within (listed (results_of v (den t f0))) (listed H)
-    within_low = subst (λ (F : Fun). Within (listed (results_of v F)) (listed H)) (sym low.stands) (within_fixed v (den t f) l differ false from)
+    high_same : den t₁ f1 ≡ fixed l true (den t f)
+    high_same = den_extends t sp.ok.formed t₁ first.added.extends f1 sp.high.used ∙ sp.high.stands
 
-    pub quantify_short_1 : (t₁ : Table) → Lacks t t₁ (listed (results_of v (den t f0))) → Lacks t t₁ (listed H)
-    quantify_short_1 t₁ x = lacks_within within_low x
+    within_high : Within (listed (results_of v (den t₁ f1))) (listed H)
+    within_high = subst (λ (F : Fun). Within (listed (results_of v F)) (listed H)) (sym high_same) (within_fixed v (den t f) l differ true from)
 
-    module _ (t₁ : Table) (a : Trio) (first : Trebled t t₁ (results_of v (den t f0)) a) where
-      pub quantify_high : Quantifiable t₁ v f1
-      quantify_high =
-          let x = first.added.extends.longer in
-          let u = high.used in
-          record { formed = first.added.formed; in_range = ok.in_range; used = omega arith }
+    pub quantify_short_2 : {t₂ : Table} → Lacks t₁ t₂ (listed (results_of v (den t₁ f1))) → Lacks t t₂ (listed H)
+    quantify_short_2 x = lacks_after within_low within_high first.added x
 
-      high_same : den t₁ f1 ≡ fixed l true (den t f)
-      high_same = den_extends t ok.formed t₁ first.added.extends f1 high.used ∙ high.stands
+    module _ {t₂ : Table} {b : Trio} (second : Trebled t₁ t₂ (results_of v (den t₁ f1)) b) where
+      -- the six entries in t₂
+      low_entry : (i : ℕ) (h : Fun → Fun) (K : Fun) → h (fixed l false (den t f)) ≡ fixed l false K → Entry t₁ i (h (den t f0)) → Entry t₂ i (fixed l false K)
+      low_entry i h K e x =
+          entry_kept first.added.formed second.added.extends i (fixed l false K) (x.0, x.1 ∙ ap h sp.low.stands ∙ e)
 
-      within_high : Within (listed (results_of v (den t₁ f1))) (listed H)
-      within_high = subst (λ (F : Fun). Within (listed (results_of v F)) (listed H)) (sym high_same) (within_fixed v (den t f) l differ true from)
+      high_entry : (i : ℕ) (h : Fun → Fun) (K : Fun) → h (fixed l true (den t f)) ≡ fixed l true K → Entry t₂ i (h (den t₁ f1)) → Entry t₂ i (fixed l true K)
+      high_entry i h K e x = (x.0, x.1 ∙ ap h high_same ∙ e)
 
-      pub quantify_short_2 : (t₂ : Table) → Lacks t₁ t₂ (listed (results_of v (den t₁ f1))) → Lacks t t₂ (listed H)
-      quantify_short_2 t₂ x = lacks_after within_low within_high first.added x
+      zero_low : Entry t₂ a.zero (fixed l false H.zero)
+      zero_low = low_entry a.zero (fixed v false) H.zero (fixed_turned v (den t f) l differ false false) first.zero
 
-      module _ (t₂ : Table) (b : Trio) (second : Trebled t₁ t₂ (results_of v (den t₁ f1)) b) where
-        -- the six entries in t₂
-        low_entry : (i : ℕ) (h : Fun → Fun) (K : Fun) → h (fixed l false (den t f)) ≡ fixed l false K → Entry t₁ i (h (den t f0)) → Entry t₂ i (fixed l false K)
-        low_entry i h K e x =
-            entry_kept first.added.formed second.added.extends i (fixed l false K) (x.0, x.1 ∙ ap h low.stands ∙ e)
+      one_low : Entry t₂ a.one (fixed l false H.one)
+      one_low = low_entry a.one (fixed v true) H.one (fixed_turned v (den t f) l differ false true) first.one
 
-        high_entry : (i : ℕ) (h : Fun → Fun) (K : Fun) → h (fixed l true (den t f)) ≡ fixed l true K → Entry t₂ i (h (den t₁ f1)) → Entry t₂ i (fixed l true K)
-        high_entry i h K e x = (x.0, x.1 ∙ ap h high_same ∙ e)
+      any_low : Entry t₂ a.any (fixed l false H.any)
+      any_low = low_entry a.any (exists v) H.any (exists_turned v (den t f) l differ false) first.any
 
-        zero_low : Entry t₂ a.zero (fixed l false H.zero)
-        zero_low = low_entry a.zero (fixed v false) H.zero (fixed_turned v (den t f) l differ false false) first.zero
+      zero_high : Entry t₂ b.zero (fixed l true H.zero)
+      zero_high = high_entry b.zero (fixed v false) H.zero (fixed_turned v (den t f) l differ true false) second.zero
 
-        one_low : Entry t₂ a.one (fixed l false H.one)
-        one_low = low_entry a.one (fixed v true) H.one (fixed_turned v (den t f) l differ false true) first.one
+      one_high : Entry t₂ b.one (fixed l true H.one)
+      one_high = high_entry b.one (fixed v true) H.one (fixed_turned v (den t f) l differ true true) second.one
 
-        any_low : Entry t₂ a.any (fixed l false H.any)
-        any_low = low_entry a.any (exists v) H.any (exists_turned v (den t f) l differ false) first.any
+      any_high : Entry t₂ b.any (fixed l true H.any)
+      any_high = high_entry b.any (exists v) H.any (exists_turned v (den t f) l differ true) second.any
 
-        zero_high : Entry t₂ b.zero (fixed l true H.zero)
-        zero_high = high_entry b.zero (fixed v false) H.zero (fixed_turned v (den t f) l differ true false) second.zero
+      from_zero : From l H.zero
+      from_zero = from_fixed_at (den t f) from v false
 
-        one_high : Entry t₂ b.one (fixed l true H.one)
-        one_high = high_entry b.one (fixed v true) H.one (fixed_turned v (den t f) l differ true true) second.one
+      from_one : From l H.one
+      from_one = from_fixed_at (den t f) from v true
 
-        any_high : Entry t₂ b.any (fixed l true H.any)
-        any_high = high_entry b.any (exists v) H.any (exists_turned v (den t f) l differ true) second.any
+      from_any : From l H.any
+      from_any = from_exists v (den t f) from
 
-        from_zero : From l H.zero
-        from_zero = from_fixed_at (den t f) from v false
+      pub quantify_makeable : MakeableThree t₂ l a b
+      quantify_makeable =
+          let wf = second.added.formed in
+          record {
+            zero = makeable_over t₂ wf l in_range H.zero from_zero a.zero b.zero zero_low zero_high;
+            one = makeable_over t₂ wf l in_range H.one from_one a.one b.one one_low one_high;
+            any = makeable_over t₂ wf l in_range H.any from_any a.any b.any any_low any_high;
+          }
 
-        from_one : From l H.one
-        from_one = from_fixed_at (den t f) from v true
+      same_funs : node_funs t₂ l a b ≡ H
+      same_funs i =
+          let wf = second.added.formed in
+          record {
+            zero = node_over t₂ wf l in_range H.zero from_zero a.zero b.zero zero_low zero_high i;
+            one = node_over t₂ wf l in_range H.one from_one a.one b.one one_low one_high i;
+            any = node_over t₂ wf l in_range H.any from_any a.any b.any any_low any_high i;
+          }
 
-        from_any : From l H.any
-        from_any = from_exists v (den t f) from
+      added_2 : Added t t₂ (listed H)
+      added_2 = added_then within_low within_high first.added second.added
 
-        pub quantify_makeable : MakeableThree t₂ l a b
-        quantify_makeable =
-            let wf = second.added.formed in
-            record {
-              zero = makeable_over t₂ wf l in_range H.zero from_zero a.zero b.zero zero_low zero_high;
-              one = makeable_over t₂ wf l in_range H.one from_one a.one b.one one_low one_high;
-              any = makeable_over t₂ wf l in_range H.any from_any a.any b.any any_low any_high;
-            }
+      -- so they may be remembered
+      pub quantify_meant : MeantThree t₂ v f (node_funs t₂ l a b)
+      quantify_meant =
+          let same = den_extends t sp.ok.formed t₂ added_2.extends f sp.ok.used in
+          let longer = added_2.extends.longer in
+          let u = sp.ok.used in
+          record {
+            in_range = sp.ok.in_range;
+            used = omega arith;
+            zero = ap (λ (h : Funs). h.zero) same_funs ∙ ap (fixed v false) (sym same);
+            one = ap (λ (h : Funs). h.one) same_funs ∙ ap (fixed v true) (sym same);
+            any = ap (λ (h : Funs). h.any) same_funs ∙ ap (exists v) (sym same);
+          }
 
-        same_funs : node_funs t₂ l a b ≡ H
-        same_funs i =
-            let wf = second.added.formed in
-            record {
-              zero = node_over t₂ wf l in_range H.zero from_zero a.zero b.zero zero_low zero_high i;
-              one = node_over t₂ wf l in_range H.one from_one a.one b.one one_low one_high i;
-              any = node_over t₂ wf l in_range H.any from_any a.any b.any any_low any_high i;
-            }
-
-        added_2 : Added t t₂ (listed H)
-        added_2 = added_then within_low within_high first.added second.added
-
-        -- what is made is remembered
-        recalled : (t₃ : Table) (r : Trio) → Trebled t t₃ H r → Recalls t₃ (quantifying v f) r.zero r.one r.any
-        recalled t₃ r x =
-            let same = den_extends t ok.formed t₃ x.added.extends f ok.used in
-            let longer = x.added.extends.longer in
-            let u = ok.used in
-            let q : Quantified t₃ v f r.zero r.one r.any = record {
-              operand = omega arith;
-              zero = x.zero.1 ∙ ap (fixed v false) (sym same);
-              one = x.one.1 ∙ ap (fixed v true) (sym same);
-              any = x.any.1 ∙ ap (exists v) (sym same);
-            } in
-            record {
-              left = x.zero.0;
-              right = x.one.0;
-              found = x.any.0;
-              stands = λ h. absurd (omega arith);
-              quantified = λ h. subst₂ (λ (w k : ℕ). Quantified t₃ w k r.zero r.one r.any) (sym asked_level) (sym asked_entry) q;
-            }
-
-        pub quantify_answers : (packed high work work' : List ℕ) → Remembered t₂ (memo_in work) → (r : Three)
-            → FinishingThree t₂ packed high work work' (node_funs t₂ l a b) (quantifying v f) r → Quantifying t packed high work' v (den t f) r
-        quantify_answers packed high work work' rem (three.At r n) x =
-            let t₃ = packed_table packed high n in
-            let y = trebled_same r same_funs x.0 in
-            let z : Trebled t t₃ H r = record {
-              added = added_then (within_same H) (within_same H) added_2 y.added;
-              zero = y.zero;
-              one = y.one;
-              any = y.any;
-            } in (
-              z,
-              record {
-                indexed = x.1;
-                remembered = remembered_stores t₃ (memo_in work) (memo_in work') (quantifying v f) r.zero r.one r.any
-                    (remembered_extends t₂ t₃ second.added.formed y.added.extends (memo_in work) rem) (recalled t₃ r z) x.2;
-              },
-            )
-        quantify_answers packed high work work' rem three.Full x =
-            lacks_after (within_same H) (within_same H) added_2 (subst (LacksThree t₂ packed high) same_funs x)
+      pub quantify_answers : (t₃ : Table) (r : Result Trio Full) → Trebles t₂ t₃ (node_funs t₂ l a b) r → Trebles t t₃ H r
+      quantify_answers t₃ (Ok r) x =
+          let y = trebled_same r same_funs x in
+          record {
+            added = added_then (within_same H) (within_same H) added_2 y.added;
+            zero = y.zero;
+            one = y.one;
+            any = y.any;
+          }
+      quantify_answers t₃ (Err e) x =
+          lacks_after (within_same H) (within_same H) added_2 (subst (λ (h : Funs). Lacks t₂ t₃ (listed h)) same_funs x)
 
 -- ---- ∃ as a step of a formula
+
+-- the entry of ∃
+abbrev pub any_of : Result Trio Full → ℕ
+any_of (Ok r) = r.any
+any_of (Err e) = 0
 
 has_three : {t t' : Table} (h : Funs) (r : Trio) → Trebled t t' h r → (f : Fun) → Memᴰ f (listed h) → Has t' f
 has_three h r x f m = ⊎_elim
@@ -429,39 +478,21 @@ has_three h r x f m = ⊎_elim
     (Memᴰ.cases_cons m'))
     (Memᴰ.cases_cons m)
 
-module _ (s : Store) (packed high work : List ℕ) (v : ℕ) where
-  abbrev after : Three → Store
-  after r = store packed high work (room_of (any_of r) (length packed))
-
-  pub quantified_ready : (F : Fun) (r : Three) → Quantifying s.table packed high work v F r → Ready (after r)
-  quantified_ready F (three.At r n) x = record { formed = λ _. x.0.added.formed; helped = λ _. x.1 }
-  quantified_ready F three.Full x = record { formed = λ e. contrary refl e; helped = λ e. contrary refl e }
-
+module _ {s s' : Store} where
   -- the answer, as what was done
-  pub quantified : s.full ≡ false → (F : Fun) (r : Three) → Quantifying s.table packed high work v F r
-      → Does s (after r) (listed (results_of v F)) × Stands (after r) (room_of (any_of r) (length packed)).root (exists v F)
-  quantified e F (three.At r n) x = let y = x.0 in (grew e refl (record { added = y.added; has = has_three (results_of v F) r y }), λ _. y.any)
-  quantified e F three.Full x =
-      (filled e refl (subst (λ (n : ℕ). Lacks s.table (packed_table packed high n) (listed (results_of v F))) (levels_length packed) x), λ o. contrary refl o)
+  quantified : (h : Funs) (r : Result Trio Full) → s.full ≡ false → s'.full ≡ is_err r → Trebles s.table s'.table h r
+      → Does s s' (listed h) × Stands s' (any_of r) h.any
+  quantified h (Ok r) e k x = (grew e k (record { added = x.added; has = has_three h r x }), λ _. x.any)
+  quantified h (Err _) e k x = (filled e k x, λ o. contrary k o)
 
--- the three functions are listed with ∃
-quantified_maps : {s s' : Store} (v f i : ℕ) → f < s.table.used → After s s'
-    → ((F : Fun) → Stands s f F → Does s s' (listed (results_of v F)) × Stands s' i (exists v F)) → Maps s s' (some v) f i
-quantified_maps v f i u a x = record {
-  after = a;
-  gives = λ {s₀} {φ} p. let (d, e) = x (value φ) p.stands in record { does = does_then p.does d; stands = e };
-  nothing = used_one u;
-}
-
-pub exists_maps : (s : Store) (packed high work : List ℕ) (v f : ℕ) → s.full ≡ false → f < s.table.used → Keeps s (store packed high work (room_of made.Full 0)) → (r : Three)
-    → Quantifying s.table packed high work v (den s.table f) r
-    → Maps s (after s packed high work v r) (some v) f (room_of (any_of r) (length packed)).root
-exists_maps s packed high work v f e u k r x =
-    quantified_maps v f (room_of (any_of r) (length packed)).root u
-    (record {
-      ready = quantified_ready s packed high work v (den s.table f) r x;
-      kept = record { packed = k.packed; high = k.high; work = k.work };
-    })
-    (λ F y. subst (λ (G : Fun). Does s (after s packed high work v r) (listed (results_of v G))
-    × Stands (after s packed high work v r) (room_of (any_of r) (length packed)).root (exists v G)) (y e).1
-    (quantified s packed high work v e (den s.table f) r x))
+  -- the three functions are listed with ∃
+  pub maps_exists : (v f : ℕ) (r : Result Trio Full) → s.full ≡ false → s'.full ≡ is_err r → f < s.table.used
+      → Trebling s s' (results_of v (den s.table f)) r → Maps s s' (some v) f (any_of r)
+  maps_exists v f r e k u x = record {
+    kept = x.kept;
+    gives = λ {s₀} {φ} p.
+        let (d, y) = subst (λ (F : Fun). Does s s' (listed (results_of v F)) × Stands s' (any_of r) (exists v F)) (p.stands e).1
+        (quantified (results_of v (den s.table f)) r e k x.answers) in
+        record { does = does_then p.does d; stands = y };
+    nothing = used_one u;
+  }

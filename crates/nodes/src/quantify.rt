@@ -1,7 +1,7 @@
 // ∃ of a level by one recursion, which works out its three functions at a time.
-ghost use Rattle.std.specs.Prelude.{◌≡◌, ◌≤◌, ◌<◌};
+ghost use Rattle.std.specs.Prelude.{◌≡◌, false, true, ◌≤◌, ◌<◌};
 ghost use Rattle.nodes.specs.internal.Parts.{memo_in};
-ghost use Rattle.nodes.specs.internal.Operate.{last_number, quantifying};
+ghost use Rattle.nodes.specs.internal.Operate.{last_number, quantifying, Cofactor};
 ghost use Rattle.nodes.specs.Table.{max_length, last_level, level_of, den};
 ghost use Rattle.nodes.specs.internal.Lent.{table_of, entering, leaving};
 ghost use Rattle.nodes.specs.internal.Quantify.{Quantifiable, MakeableThree, MeantThree, node_funs, results_of, RecalledThree, Trebling};
@@ -35,26 +35,57 @@ fn number_of(v: u8, f: u32) -> u32
     FIRST_NUMBER + (v as u32) + f * LEVELS_EACH
 }
 
-// The results of ∃v f, where slot s of the memory has them.
-fn recall_three(work: &[u32], s: usize, v: u8, f: u32) -> Option<Trio>
-    requires { (v ≤ last_level) × (f < max_length) }
-    ensures { RecalledThree (memo_in work.now) (quantifying v f) result }
-{
-    if slots(work) <= s {
-        return None;
-    }
-    let at = memory_at(work) + 4 * s;
-    if work[at] == number_of(v, f) + 1 {
-        return Some(Trio {
-            zero: work[at + 1],
-            one: work[at + 2],
-            any: work[at + 3],
-        });
-    }
-    None
+// An entry with a level fixed to 0, and with it fixed to 1.
+#[derive(Clone, Copy)]
+pub(crate) struct Halves {
+    pub low: u32,
+    pub high: u32,
 }
 
 impl<'packed, 'high, 'work> Manager<'packed, 'high, 'work> {
+    // The level of an entry in use.
+    #[tactic(auto, using(crate::proofs::Parting::levels_length, crate::proofs::Starting::level_byte))]
+    fn level(&self, f: u32) -> u8
+        requires { f < self.now.used }
+        ensures { result ≡ level_of (table_of self.now) f }
+    {
+        level_of(self.packed, f)
+    }
+
+    // f with level v, at most its own, fixed to each bit.
+    #[tactic(auto, using(crate::proofs::Parting::levels_length))]
+    fn halves(&self, v: u8, f: u32) -> Halves
+        requires quantifiable { Quantifiable (table_of self.now) v f }
+        requires top { v ≤ level_of (table_of self.now) f }
+        ensures low { Cofactor (table_of self.now) f v false result.low }
+        ensures high { Cofactor (table_of self.now) f v true result.high }
+    {
+        Halves {
+            low: low_cofactor(self.packed, f, v),
+            high: high_cofactor(self.packed, self.high, f, v),
+        }
+    }
+
+    // The results of ∃v f, where slot s of the memory has them.
+    #[tactic(auto, using(crate::proofs::Holding::work_holds))]
+    fn recall_three(&self, s: usize, v: u8, f: u32) -> Option<Trio>
+        requires { (v ≤ last_level) × (f < max_length) }
+        ensures { RecalledThree (memo_in self.now.work.now) (quantifying v f) result }
+    {
+        if slots(self.work) <= s {
+            return None;
+        }
+        let at = memory_at(self.work) + 4 * s;
+        if self.work[at] == number_of(v, f) + 1 {
+            return Some(Trio {
+                zero: self.work[at + 1],
+                one: self.work[at + 2],
+                any: self.work[at + 3],
+            });
+        }
+        None
+    }
+
     // Makes the three nodes of level l whose children are the entries of a and of b. The ∨ is often the first of them.
     fn make_three(&mut self, level: u8, a: Trio, b: Trio) -> Result<Trio, Full>
         requires { MakeableThree (table_of self.old) level a b }
@@ -122,10 +153,13 @@ impl<'packed, 'high, 'work> Manager<'packed, 'high, 'work> {
                 any: f,
             });
         }
-        let zero = low_cofactor(self.packed, f, v);
-        let one = high_cofactor(self.packed, self.high, f, v);
-        let any = self.operate(Operation::Or, zero, one)?;
-        Ok(Trio { zero, one, any })
+        let c = self.halves(v, f);
+        let any = self.operate(Operation::Or, c.low, c.high)?;
+        Ok(Trio {
+            zero: c.low,
+            one: c.high,
+            any,
+        })
     }
 
     // The entries of what f stands for with level v fixed to 0, fixed to 1, and of ∃v.
@@ -133,7 +167,7 @@ impl<'packed, 'high, 'work> Manager<'packed, 'high, 'work> {
         requires { Quantifiable (table_of self.old) v f }
         ensures { Trebling (entering self.old) (leaving self.new result) (results_of v (den (table_of self.old) f)) result }
     {
-        let l = level_of(self.packed, f);
+        let l = self.level(f);
         if v <= l {
             return self.settle_three(v, f, l);
         }
@@ -143,13 +177,12 @@ impl<'packed, 'high, 'work> Manager<'packed, 'high, 'work> {
             right: 0,
         };
         let s = self.slot_for(key);
-        if let Some(r) = recall_three(self.work, s, v, f) {
+        if let Some(r) = self.recall_three(s, v, f) {
             return Ok(r);
         }
-        let f0 = low_cofactor(self.packed, f, l);
-        let f1 = high_cofactor(self.packed, self.high, f, l);
-        let a = self.quantify(v, f0)?;
-        let b = self.quantify(v, f1)?;
+        let c = self.halves(l, f);
+        let a = self.quantify(v, c.low)?;
+        let b = self.quantify(v, c.high)?;
         self.finish_three(l, a, b, s, v, f)
     }
 }
