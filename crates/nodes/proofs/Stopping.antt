@@ -3,12 +3,13 @@
 --     more_..           a formula with an operand lists what the operand lists
 --     full_..           what is left to do on a full manager
 --     stopped_..        a function that ends early, by the answer of the call that did not fit
-use mathlib.Core.Path.{◌≡◌, refl, sym, ap}
+use mathlib.Core.Path.{◌≡◌, refl, sym, ap, subst}
 use mathlib.Core.Bool.{Bool, true, false, ◌&&◌}
 use mathlib.Core.Logic.{⊎_elim}
 use mathlib.Core.List.Memᴰ
 use mathlib.Core.List.{List, [], ◌∷◌, ◌++◌, Memᴰ}
-use Prim.Native.Nat.{ℕ, zero, suc, ◌+◌, ◌≤◌}
+use Prim.Native.Nat.{ℕ, zero, suc, ◌+◌, ◌-◌, ◌≤◌}
+use native.Mathlib.Omega.{arith}
 use Rattle.std.specs.Prelude.{Result, Ok, Err, IsErr, is_err}
 use Rattle.nodes.specs.Fun.{Fun, From}
 use Rattle.nodes.specs.Formula.{Formula, ⟪◌⟫, ◌∧'◌, ◌∨'◌, ¬'◌, fix, some, results, renamed, fix_below}
@@ -20,7 +21,7 @@ use Rattle.nodes.specs.internal.Lent.{table_of, store, leaving, entry_of}
 use Rattle.nodes.specs.internal.Several.{some_from, renamed_from}
 use Rattle.nodes.specs.internal.Single.{Guards}
 use Rattle.nodes.specs.internal.Work.{Store, Keeps, Does, stayed, Operating, Stands, Gives, Lists, Continues, Maps, Joins, Uses₁, Uses₂, Applies, Chooses, is_deeper}
-use Rattle.nodes.proofs.Singles.{renamed_more}
+use Rattle.nodes.proofs.Singles.{one_less, renamed_more}
 use Rattle.nodes.proofs.Working.{contrary, keeps_none, full_more, does_then, stands_kept}
 
 -- ---- the lists of formulas with operands
@@ -72,6 +73,12 @@ pub more_fix_below : (n c : ℕ) → More (fix_below n c)
 more_fix_below zero c φ f m = m
 more_fix_below (suc n) c φ f m = Memᴰ.append_left _ (more_fix_below n c φ f m)
 
+-- the levels below m, and those below n
+more_below : (m c : ℕ) (φ : Formula) (d n : ℕ) → n ≡ d + m → Among (results (fix_below m c φ)) (results (fix_below n c φ))
+more_below m c φ zero n e = let q : n ≡ m = omega (arith, e) in subst (λ (k : ℕ). Among (results (fix_below m c φ)) (results (fix_below k c φ))) (sym q) (λ f k. k)
+more_below m c φ (suc d) n e = one_less (λ k. Among (results (fix_below m c φ)) (results (fix_below k c φ))) n (omega (arith, e))
+    (λ u q f k. Memᴰ.append_left _ (more_below m c φ d u (omega (arith, e, q)) f k))
+
 -- ---- what is left to do on a full manager
 
 module _ {s : Store} (full : s.full ≡ true) where
@@ -96,6 +103,16 @@ module _ {s : Store} (full : s.full ≡ true) where
 
   pub full_maps : {C : Formula → Formula} {f : ℕ} → More C → Maps s s C f f
   full_maps {C} more = record { kept = keeps_none; gives = λ x. full_goes_on C more x; nothing = λ _. (refl, refl) }
+
+  pub full_below : {s₀ : Store} (m n c : ℕ) {f i : ℕ} → m ≤ n → Maps s₀ s (fix_below m c) f i → Maps s₀ s (fix_below n c) f i
+  full_below m n c l x = record {
+    kept = x.kept;
+    gives = λ {s₀} {φ} y. record {
+      does = full_more full (more_below m c φ (n - m) n (omega (arith, l))) (x.gives y).does;
+      stands = λ o. contrary full o;
+    };
+    nothing = x.nothing;
+  }
 
   pub full_joins : {K : Formula → Formula → Formula} {f g : ℕ} → More₂ K → Joins s s K f g f
   full_joins {K} more = record {

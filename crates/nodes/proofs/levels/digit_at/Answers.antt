@@ -1,20 +1,21 @@
--- `nodes::digit_at` meets its contract: the loop keeps that digit i of m is digit k of n. Assumes nothing.
-use mathlib.Core.Path.{refl, sym, ◌∙◌}
+-- `nodes::digit_at` meets its contract: a digit of m is digit k of n, one place lower after each turn. Assumes nothing.
+use mathlib.Core.Path.{◌≡◌, refl, sym, ap, ◌∙◌}
+use Prim.Native.Nat.{ℕ, ◌+◌, ◌-◌, ◌/◌}
 use native.Mathlib.Omega.{arith}
+use Rattle.nodes.specs.Formula.{bit}
 use Rattle.nodes.proofs.Bits.{bit_step, bit_end}
 use Rattle.nodes.proofs.levels.digit_at.Goals as goal
 
-pub loop-i-init : goal.loop-i-init
-loop-i-init c = refl
+pub loop-init : goal.loop-init
+loop-init c = let e : c.args.k - 0 ≡ c.args.k = omega arith in ap (bit c.args.n) e
 
-pub overflow_sub-i : goal.overflow_sub-i
-overflow_sub-i c = omega arith
-
-pub loop-i-smaller : goal.loop-i-smaller
-loop-i-smaller c = omega arith
-
-pub loop-i-preserved : goal.loop-i-preserved
-loop-i-preserved c = sym (bit_step c.loop-i.m c.loop-i.i (omega arith)) ∙ c.loop-i.invariant
+pub loop-preserved : goal.loop-preserved
+loop-preserved c =
+    let m = c.loop.m in
+    let i = c.loop.counter in
+    let k = c.args.k in
+    let e : k - (i + 1) ≡ k - i - 1 = omega arith in
+    ap (bit (m / 2)) e ∙ sym (bit_step m (k - i) (omega (arith, c.loop-test.true))) ∙ c.loop.invariant
 
 pub returns : goal.returns
-returns c = sym (bit_end c.loop-i.m c.loop-i.i (omega arith)) ∙ c.loop-i.invariant
+returns c = sym (bit_end c.loop.m (c.args.k - c.loop.counter) (omega (arith, c.loop-test.false))) ∙ c.loop.invariant

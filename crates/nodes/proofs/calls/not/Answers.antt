@@ -1,7 +1,0 @@
--- `nodes::not` meets its contract. Assumes nothing.
-use Rattle.nodes.proofs.Working.{not_maps}
-use Rattle.nodes.proofs.calls.not.Goals as goal
-
-pub returns : goal.returns
-returns c =
-    not_maps _ _ c.requires c.apply.ensures
