@@ -1,6 +1,6 @@
 // Reads texts line by line through the `Reader`, and prints for each line whether it is ended, how many digits it has, and the digits of
 // a short one; "none" where the reader says that no line is left.
-use super::{number, say, text_of};
+use super::text_of;
 use frames::line::LineState;
 use frames::reader::Reader;
 use std::io;
@@ -11,11 +11,12 @@ const SHORT: usize = 16;
 const MOST: usize = 66;
 
 fn digits(rt: &impl Print, digits: &[u8]) -> io::Result<()> {
-    number(rt, digits.len() as u64)?;
+    let n = digits.len();
+    print!(rt; " {n}")?;
     if digits.len() <= SHORT {
-        say(rt, b" \"")?;
-        say(rt, digits)?;
-        say(rt, b"\"")?;
+        print!(rt; " \"")?;
+        rt.write_all(digits)?;
+        print!(rt; "\"")?;
     }
     Ok(())
 }
@@ -24,17 +25,17 @@ fn digits(rt: &impl Print, digits: &[u8]) -> io::Result<()> {
 fn line(rt: &impl Print, reader: Reader) -> io::Result<bool> {
     match reader.state() {
         LineState::Ended => {
-            say(rt, b" ended")?;
+            print!(rt; " ended")?;
             digits(rt, reader.digits())?;
             Ok(true)
         }
         LineState::Unended => {
-            say(rt, b" unended")?;
+            print!(rt; " unended")?;
             digits(rt, reader.digits())?;
             Ok(true)
         }
         LineState::NoLine => {
-            say(rt, b" none")?;
+            print!(rt; " none")?;
             Ok(false)
         }
     }
@@ -42,9 +43,9 @@ fn line(rt: &impl Print, reader: Reader) -> io::Result<bool> {
 
 // One text.
 fn lines(rt: &impl Print, name: &[u8], text: &[u8]) -> io::Result<()> {
-    say(rt, b"reader, ")?;
-    say(rt, name)?;
-    say(rt, b":")?;
+    print!(rt; "reader, ")?;
+    rt.write_all(name)?;
+    print!(rt; ":")?;
     let mut reader = Reader::new(text);
     for _ in 0..=MOST {
         if !line(rt, reader)? {
@@ -52,7 +53,7 @@ fn lines(rt: &impl Print, name: &[u8], text: &[u8]) -> io::Result<()> {
         }
         reader = reader.after();
     }
-    say(rt, b"\n")
+    println!(rt)
 }
 
 fn case(rt: &impl Print, c: &[u8]) -> io::Result<()> {

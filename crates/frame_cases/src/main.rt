@@ -11,56 +11,33 @@ use frames::summary::Summary;
 use frames::text::{TextError, read};
 use std::io;
 
-fn say(rt: &impl Print, text: &[u8]) -> io::Result<()> {
-    rt.write_all(text)
-}
-
-fn number(rt: &impl Print, n: u64) -> io::Result<()> {
-    print!(rt; " {n}")
-}
-
-fn small(n: u8) -> u64 {
-    n as u64
-}
-
-fn large(n: u32) -> u64 {
-    n as u64
-}
-
 // A case is one literal: its name, a newline, and its text.
 fn text_of(c: &[u8]) -> &[u8] {
     c.get(Reader::new(c).after().at..).unwrap_or(&[])
 }
 
-fn accepted(rt: &impl Print, s: Summary) -> io::Result<()> {
-    say(rt, b" accepted")?;
-    number(rt, s.lines as u64)?;
-    let last = s.counts_at((s.lines % 64 + 63) % 64);
-    number(rt, small(last.bits))?;
-    number(rt, small(last.uses))?;
-    number(rt, large(last.states))
-}
-
-fn refused(rt: &impl Print, n: u8, line: usize) -> io::Result<()> {
-    say(rt, b" refused")?;
-    number(rt, n as u64)?;
-    number(rt, line as u64)
-}
-
 // What reading a text answers.
 fn answer(rt: &impl Print, r: Result<Summary, TextError>) -> io::Result<()> {
     match r {
-        Ok(summary) => accepted(rt, summary),
-        Err(e) => refused(rt, e.refusal.number(), e.line),
+        Ok(s) => {
+            let n = s.lines;
+            let last = s.counts_at((n % 64 + 63) % 64);
+            let (bits, uses, states) = (last.bits, last.uses, last.states);
+            print!(rt; " accepted {n} {bits} {uses} {states}")
+        }
+        Err(e) => {
+            let (n, line) = (e.refusal.number(), e.line);
+            print!(rt; " refused {n} {line}")
+        }
     }
 }
 
 // One case: its name, and what reading the text answers, as a whole and in pieces.
 fn case(rt: &impl Print, c: &[u8]) -> io::Result<()> {
-    say(rt, Reader::new(c).digits())?;
-    say(rt, b":")?;
+    rt.write_all(Reader::new(c).digits())?;
+    print!(rt; ":")?;
     answer(rt, read(text_of(c)))?;
-    say(rt, b"\n")?;
+    println!(rt)?;
     pieces::show(rt, text_of(c))
 }
 

@@ -1,7 +1,7 @@
 // Reads texts in pieces: the `Reader` finds the lines of a piece, and the `Decoder` goes on with a line that was cut.
 ghost use Rattle.std.specs.Prelude.{◌≤◌};
 
-use super::{answer, case, number, say};
+use super::{answer, case};
 use frames::decoder::Decoder;
 use frames::line::LineState;
 use frames::reader::Reader;
@@ -132,22 +132,21 @@ fn read_pieces(text: &[u8], size: usize) -> Result<Summary, TextError>
 fn show_size(rt: &impl Print, text: &[u8], size: usize) -> io::Result<()>
     requires { 1 ≤ size }
 {
-    say(rt, b" of")?;
-    number(rt, size as u64)?;
+    print!(rt; " of {size}")?;
     answer(rt, read_pieces(text, size))
 }
 
 // What reading in pieces of so many bytes answers, and pushing one byte after the other.
 pub fn show(rt: &impl Print, text: &[u8]) -> io::Result<()> {
-    say(rt, b"    pieces")?;
+    print!(rt; "    pieces")?;
     show_size(rt, text, 1)?;
     show_size(rt, text, 2)?;
     show_size(rt, text, 3)?;
     show_size(rt, text, 7)?;
     show_size(rt, text, 64)?;
-    say(rt, b" pushed")?;
+    print!(rt; " pushed")?;
     answer(rt, read_bytes(text))?;
-    say(rt, b"\n")
+    println!(rt)
 }
 
 fn stray_bytes(rt: &impl Print) -> io::Result<()> {

@@ -6,7 +6,7 @@ use std::io;
 
 fn show(rt: &impl Print, name: &[u8], left: &[u8], right: &[u8], limit: u64) -> io::Result<()> {
     rt.write_all(name)?;
-    rt.write_all(b"\n")?;
+    println!(rt)?;
     checking::print_within(rt, left, right, limit)
 }
 

@@ -46,16 +46,16 @@ fn build(manager: &mut Manager) -> Result<Roots, Full> {
 
 fn digit(rt: &impl Print, answer: Result<bool, LookUpError>) -> io::Result<()> {
     match answer {
-        Ok(true) => rt.write_all(b"1"),
-        Ok(false) => rt.write_all(b"0"),
-        Err(_) => rt.write_all(b"-"),
+        Ok(true) => print!(rt; "1"),
+        Ok(false) => print!(rt; "0"),
+        Err(_) => print!(rt; "-"),
     }
 }
 
 // The values from a root at the actions 0 to 15.
 fn show(rt: &impl Print, name: &[u8], root: u32, table: TableSlices) -> io::Result<()> {
     rt.write_all(name)?;
-    rt.write_all(b": ")?;
+    print!(rt; ": ")?;
     for action in 0..16 {
         let point = Point {
             action,
@@ -66,7 +66,7 @@ fn show(rt: &impl Print, name: &[u8], root: u32, table: TableSlices) -> io::Resu
         };
         digit(rt, look_up(table, root as u64, point))?;
     }
-    rt.write_all(b"\n")
+    println!(rt)
 }
 
 fn show_all(rt: &impl Print, r: Roots, table: TableSlices) -> io::Result<()> {

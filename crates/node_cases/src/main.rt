@@ -96,13 +96,13 @@ fn numbers(rt: &impl Print) -> io::Result<()> {
 
 // A code in each of the four places, from a root.
 fn each_place(rt: &impl Print, name: &[u8], root: u64, code: u64) -> io::Result<()> {
-    rt.write_all(b"left now ")?;
+    print!(rt; "left now ")?;
     good(rt, name, root, at(0, code, 0, 0, 0))?;
-    rt.write_all(b"left next ")?;
+    print!(rt; "left next ")?;
     good(rt, name, root, at(0, 0, code, 0, 0))?;
-    rt.write_all(b"right now ")?;
+    print!(rt; "right now ")?;
     good(rt, name, root, at(0, 0, 0, code, 0))?;
-    rt.write_all(b"right next ")?;
+    print!(rt; "right next ")?;
     good(rt, name, root, at(0, 0, 0, 0, code))
 }
 

@@ -76,7 +76,7 @@ fn print_steps(rt: &impl Print, shown: Shown, n: u64) -> io::Result<()> {
 // A model of so many codes.
 fn show(rt: &impl Print, name: &[u8], text: &[u8], n: u64) -> io::Result<()> {
     rt.write_all(name)?;
-    rt.write_all(b"\n")?;
+    println!(rt)?;
     let mut level = [0u8; 16384];
     let mut low = [0u32; 16384];
     let mut high = [0u32; 16384];
