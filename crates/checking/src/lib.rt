@@ -65,6 +65,7 @@ fn read_rest<R: Read>(file: &mut R, buf: &mut [u8]) -> usize
     ensures { result ≤ length buf.old }
 {
     let mut done = 0;
+    // Kept: each read says how far the buffer is filled; there is nothing to count.
     while done < buf.len() {
         let next = read_some(file, buf, done);
         if next == done {
