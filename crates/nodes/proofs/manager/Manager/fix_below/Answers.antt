@@ -1,10 +1,9 @@
 -- `nodes::fix_below` meets its contract, level by level: those below v are fixed. Assumes nothing.
-use mathlib.Core.Path.{◌≡◌, refl, sym, subst}
-use mathlib.Core.Bool.{Bool, true}
+use mathlib.Core.Path.{◌≡◌, refl, subst}
 use Prim.Native.Nat.{ℕ, ◌+◌}
 use native.Mathlib.Omega.{arith}
-use Rattle.nodes.specs.Formula.{fix_below, fix}
-use Rattle.nodes.specs.internal.Lent.{store, entering, leaving}
+use Rattle.nodes.specs.Formula.{fix_below}
+use Rattle.nodes.specs.internal.Lent.{entering}
 use Rattle.nodes.specs.internal.Work.{Maps}
 use Rattle.nodes.proofs.Singles.{maps_none, fixed_none, maps_fixed}
 use Rattle.nodes.proofs.Stopping.{full_below, stopped_maps}
@@ -18,18 +17,11 @@ returns-in_err-g c =
     let a = c.args in
     let v = c.loop-v.v in
     let r = c.from_residual in
-    let m = c.fix.new.self in
-    stopped_maps m r.result r.ensures.0 refl
-    (full_below refl (v + 1) a.n a.c (omega (arith, c.loop-v-test.true))
-    (maps_fixed {s = entering a.self.now} {s₁ = entering c.loop-v.self} {s₂ = store m true} v a.c c.loop-v.invariant
-    (subst (λ (b : Bool). Maps (entering c.loop-v.self) (store m true) (fix v b) c.loop-v.g 0) c.digit_at.ensures c.in_err-g.ensures)))
+    stopped_maps c.fix.new.self r.result r.ensures.0 refl
+    (full_below refl (v + 1) a.n a.c (omega (arith, c.loop-v-test.true)) (maps_fixed v a.c c.digit_at.ensures c.loop-v.invariant c.in_err-g.ensures))
 
 pub loop-v-preserved : goal.loop-v-preserved
-loop-v-preserved c =
-    let a = c.args in
-    let v = c.loop-v.v in
-    maps_fixed {s = entering a.self.now} {s₁ = entering c.loop-v.self} {s₂ = entering c.fix.new.self} v a.c c.loop-v.invariant
-    (subst (λ (b : Bool). Maps (entering c.loop-v.self) (entering c.fix.new.self) (fix v b) c.loop-v.g c.in_ok-g.g) c.digit_at.ensures c.in_ok-g.ensures)
+loop-v-preserved c = maps_fixed c.loop-v.v c.args.c c.digit_at.ensures c.loop-v.invariant c.in_ok-g.ensures
 
 pub returns : goal.returns
 returns c =
