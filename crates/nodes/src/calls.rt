@@ -84,7 +84,7 @@ impl<'packed, 'high, 'work> Manager<'packed, 'high, 'work> {
         if !self.are_used(low, high) {
             return Ok(low);
         }
-        if !(self.is_deeper(v, low) && self.is_deeper(v, high)) {
+        if !self.is_deeper(v, low) || !self.is_deeper(v, high) {
             return Ok(low);
         }
         let level = v;
