@@ -66,6 +66,7 @@ impl<'packed, 'high, 'work> Manager<'packed, 'high, 'work> {
     }
 
     // Whether f is an entry whose level is above v.
+    #[tactic(auto, using(crate::proofs::Choosing::deeper_inside, crate::proofs::Choosing::deeper_outside))]
     fn is_deeper(&self, v: u8, f: u32) -> bool
         ensures { result ≡ is_deeper v f (levels self.now.packed.now) }
     {
@@ -83,7 +84,7 @@ impl<'packed, 'high, 'work> Manager<'packed, 'high, 'work> {
         if !self.are_used(low, high) {
             return Ok(low);
         }
-        if !(self.is_deeper(v, low) && self.is_deeper(v, high)) {
+        if !self.is_deeper(v, low) || !self.is_deeper(v, high) {
             return Ok(low);
         }
         let level = v;

@@ -27,6 +27,7 @@ impl Levels {
 }
 
 // Binary digit k of n.
+#[tactic(auto, using(crate::proofs::Bits::bit_step, crate::proofs::Bits::bit_end))]
 pub(crate) fn digit_at(n: u64, k: u8) -> bool
     ensures { result ≡ bit n k }
 {

@@ -1,33 +1,21 @@
 -- `nodes::number_is` meets its contract, digit by digit. Assumes nothing.
-use native.Mathlib.Omega.{arith}
 use mathlib.Core.Path.{refl}
-use mathlib.Core.Bool.{true}
 use lib.Dec.{eqb}
-use Rattle.nodes.specs.internal.Lent.{store, entering, leaving}
 use Rattle.nodes.proofs.Singles.{lists_constant, no_digits_is, lists_guarded}
 use Rattle.nodes.proofs.Stopping.{full_guards, stopped_lists}
 use Rattle.nodes.proofs.manager.Manager.+number_is.Goals as goal
 
 pub returns-then-levels-eq0 : goal.returns-then-levels-eq0
-returns-then-levels-eq0 t c =
-    let l = c.args.levels in
-    lists_constant (eqb c.args.code 0) (no_digits_is c.if-levels-eq0.true l.first l.apart c.args.code)
+returns-then-levels-eq0 t c = lists_constant (eqb c.args.code 0) (no_digits_is c.if-levels-eq0.true _ _ c.args.code)
 
 pub returns-in_err-m : goal.returns-in_err-m
 returns-in_err-m t c =
     let a = c.args in
-    let l = a.levels in
     let r = c.from_residual in
-    let m = c.number_is.new.self in
-    stopped_lists m r.result r.ensures.0 {i = 0}
-    (lists_guarded {s = entering a.self.now} {s₁ = store m true} {s₂ = store m true} l.first l.apart l.count (omega (arith, c.if-levels-eq0.false)) c.rest.ensures
-    a.code (omega (arith, l.spaced.apart)) c.in_err-m.ensures (full_guards refl))
+    stopped_lists c.number_is.new.self r.result r.ensures.0 {i = 0}
+    (lists_guarded a.levels c.rest.result c.if-levels-eq0.false c.rest.ensures a.code c.in_err-m.ensures (full_guards refl))
 
 pub returns : goal.returns
 returns t c =
     let a = c.args in
-    let l = a.levels in
-    let m = c.number_is.new.self in
-    let o = c.guard in
-    lists_guarded {s = entering a.self.now} {s₁ = entering m} {s₂ = leaving o.new.self o.result} l.first l.apart l.count (omega (arith, c.if-levels-eq0.false)) c.rest.ensures
-    a.code (omega (arith, l.spaced.apart)) c.in_ok-m.ensures o.ensures
+    lists_guarded a.levels c.rest.result c.if-levels-eq0.false c.rest.ensures a.code c.in_ok-m.ensures c.guard.ensures

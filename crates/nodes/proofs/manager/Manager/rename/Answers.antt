@@ -1,7 +1,5 @@
 -- `nodes::rename` meets its contract. Assumes nothing.
 use mathlib.Core.Path.{refl, sym, ◌∙◌}
-use mathlib.Core.Bool.{true}
-use Rattle.nodes.specs.internal.Lent.{store, entering, leaving}
 use Rattle.nodes.proofs.Working.{used_both}
 use Rattle.nodes.proofs.Singles.{maps_renaming}
 use Rattle.nodes.proofs.Stopping.{full_and, full_maps, stopped_maps, more_some}
@@ -11,23 +9,17 @@ pub returns-in_err-e : goal.returns-in_err-e
 returns-in_err-e c =
     let a = c.args in
     let r = c.from_residual in
-    let m = c.same.new.self in
-    stopped_maps m r.result r.ensures.0 refl
-    (maps_renaming {s = entering a.self.now} {s₁ = store m true} {s₂ = store m true} {s₃ = store m true} a.v a.w (used_both (sym c.are_used.ensures ∙ c.if-not-are_used.false)).0
-    c.in_err-e.ensures (full_and refl) (full_maps refl (more_some a.v)))
+    stopped_maps c.same.new.self r.result r.ensures.0 refl
+    (maps_renaming a.v a.w (used_both (sym c.are_used.ensures ∙ c.if-not-are_used.false)).0 c.in_err-e.ensures (full_and refl) (full_maps refl (more_some a.v)))
 
 pub returns-in_err-g : goal.returns-in_err-g
 returns-in_err-g c =
     let a = c.args in
     let r = c.from_residual-in_err-g in
-    let m = c.and.new.self in
-    stopped_maps m r.result r.ensures.0 refl
-    (maps_renaming {s = entering a.self.now} {s₁ = entering c.same.new.self} {s₂ = store m true} {s₃ = store m true} a.v a.w (used_both (sym c.are_used.ensures ∙ c.if-not-are_used.false)).0
-    c.in_ok-e.ensures c.in_err-g.ensures (full_maps refl (more_some a.v)))
+    stopped_maps c.and.new.self r.result r.ensures.0 refl
+    (maps_renaming a.v a.w (used_both (sym c.are_used.ensures ∙ c.if-not-are_used.false)).0 c.in_ok-e.ensures c.in_err-g.ensures (full_maps refl (more_some a.v)))
 
 pub returns : goal.returns
 returns c =
     let a = c.args in
-    let o = c.exists in
-    maps_renaming {s = entering a.self.now} {s₁ = entering c.same.new.self} {s₂ = entering c.and.new.self} {s₃ = leaving o.new.self o.result} a.v a.w
-    (used_both (sym c.are_used.ensures ∙ c.if-not-are_used.false)).0 c.in_ok-e.ensures c.in_ok-g.ensures o.ensures
+    maps_renaming a.v a.w (used_both (sym c.are_used.ensures ∙ c.if-not-are_used.false)).0 c.in_ok-e.ensures c.in_ok-g.ensures c.exists.ensures
