@@ -41,9 +41,7 @@ impl fmt::Display for Line {
         match self {
             Line::Equal { rounds, nodes } => write!(f, "equal {rounds} {nodes}"),
             Line::Different { rounds, nodes } => write!(f, "different {rounds} {nodes}"),
-            Line::Refused { number, side, line } => {
-                write!(f, "refused {number} {side} {line}")
-            }
+            Line::Refused { number, side, line } => { write!(f, "refused {number} {side} {line}") }
         }
     }
 }

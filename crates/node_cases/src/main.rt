@@ -83,15 +83,40 @@ fn roots(rt: &impl Print) -> io::Result<()> {
     good(rt, b"entry 3, action even", 3, at(62, 1, 0, 0, 0))?;
     good(rt, b"entry 3, action odd", 3, at(63, 1, 0, 0, 0))?;
     good(rt, b"entry 4, beyond the slices", 4, at(0, 0, 0, 0, 0))?;
-    good(rt, b"entry 2^64 - 1", 18446744073709551615, at(0, 0, 0, 0, 0))
+    good(
+        rt,
+        b"entry 2^64 - 1",
+        18446744073709551615,
+        at(0, 0, 0, 0, 0),
+    )
 }
 
 fn numbers(rt: &impl Print) -> io::Result<()> {
     good(rt, b"action 64", 1, at(64, 0, 0, 0, 0))?;
-    good(rt, b"action 2^64 - 1", 1, at(18446744073709551615, 0, 0, 0, 0))?;
-    good(rt, b"codes 2^20 - 1", 3, at(63, 1048575, 1048575, 1048575, 1048575))?;
-    good(rt, b"codes 2^24 - 1", 3, at(63, 16777215, 16777215, 16777215, 16777215))?;
-    good(rt, b"right next 2^64 - 1", 1, at(0, 0, 0, 0, 18446744073709551615))
+    good(
+        rt,
+        b"action 2^64 - 1",
+        1,
+        at(18446744073709551615, 0, 0, 0, 0),
+    )?;
+    good(
+        rt,
+        b"codes 2^20 - 1",
+        3,
+        at(63, 1048575, 1048575, 1048575, 1048575),
+    )?;
+    good(
+        rt,
+        b"codes 2^24 - 1",
+        3,
+        at(63, 16777215, 16777215, 16777215, 16777215),
+    )?;
+    good(
+        rt,
+        b"right next 2^64 - 1",
+        1,
+        at(0, 0, 0, 0, 18446744073709551615),
+    )
 }
 
 // A code in each of the four places, from a root.
@@ -122,24 +147,79 @@ fn levels(rt: &impl Print) -> io::Result<()> {
     at_level(rt, b"level 5, action 32", 5, at(32, 0, 0, 0, 0))?;
     at_level(rt, b"level 6, left now 1", 6, at(0, 1, 0, 0, 0))?;
     at_level(rt, b"level 7, left next 1", 7, at(0, 0, 1, 0, 0))?;
-    at_level(rt, b"level 8, a middle bit", 8, at(63, 16777215, 16777215, 16777215, 16777215))?;
+    at_level(
+        rt,
+        b"level 8, a middle bit",
+        8,
+        at(63, 16777215, 16777215, 16777215, 16777215),
+    )?;
     at_level(rt, b"level 9, right now 1", 9, at(0, 0, 0, 1, 0))?;
     at_level(rt, b"level 10, right next 1", 10, at(0, 0, 0, 0, 1))?;
     at_level(rt, b"level 10, right next 2", 10, at(0, 0, 0, 0, 2))?;
-    at_level(rt, b"level 11, a middle bit", 11, at(63, 16777215, 16777215, 16777215, 16777215))
+    at_level(
+        rt,
+        b"level 11, a middle bit",
+        11,
+        at(63, 16777215, 16777215, 16777215, 16777215),
+    )
 }
 
 fn last_levels(rt: &impl Print) -> io::Result<()> {
     at_level(rt, b"level 120, left now 2^19", 120, at(0, 524288, 0, 0, 0))?;
-    at_level(rt, b"level 124, right next 2^19", 124, at(0, 0, 0, 0, 524288))?;
-    at_level(rt, b"level 125, a middle bit", 125, at(63, 16777215, 16777215, 16777215, 16777215))?;
-    at_level(rt, b"level 126, left now 2^20", 126, at(0, 1048576, 0, 0, 0))?;
-    at_level(rt, b"level 126, left now 2^20 - 1", 126, at(0, 1048575, 0, 0, 0))?;
-    at_level(rt, b"level 144, left now 2^23", 144, at(0, 8388608, 0, 0, 0))?;
-    at_level(rt, b"level 145, left next 2^23", 145, at(0, 0, 8388608, 0, 0))?;
-    at_level(rt, b"level 147, right now 2^23", 147, at(0, 0, 0, 8388608, 0))?;
-    at_level(rt, b"level 148, right next 2^23", 148, at(0, 0, 0, 0, 8388608))?;
-    at_level(rt, b"level 149, a middle bit", 149, at(63, 16777215, 16777215, 16777215, 16777215))?;
+    at_level(
+        rt,
+        b"level 124, right next 2^19",
+        124,
+        at(0, 0, 0, 0, 524288),
+    )?;
+    at_level(
+        rt,
+        b"level 125, a middle bit",
+        125,
+        at(63, 16777215, 16777215, 16777215, 16777215),
+    )?;
+    at_level(
+        rt,
+        b"level 126, left now 2^20",
+        126,
+        at(0, 1048576, 0, 0, 0),
+    )?;
+    at_level(
+        rt,
+        b"level 126, left now 2^20 - 1",
+        126,
+        at(0, 1048575, 0, 0, 0),
+    )?;
+    at_level(
+        rt,
+        b"level 144, left now 2^23",
+        144,
+        at(0, 8388608, 0, 0, 0),
+    )?;
+    at_level(
+        rt,
+        b"level 145, left next 2^23",
+        145,
+        at(0, 0, 8388608, 0, 0),
+    )?;
+    at_level(
+        rt,
+        b"level 147, right now 2^23",
+        147,
+        at(0, 0, 0, 8388608, 0),
+    )?;
+    at_level(
+        rt,
+        b"level 148, right next 2^23",
+        148,
+        at(0, 0, 0, 0, 8388608),
+    )?;
+    at_level(
+        rt,
+        b"level 149, a middle bit",
+        149,
+        at(63, 16777215, 16777215, 16777215, 16777215),
+    )?;
     at_level(rt, b"level 150", 150, at(0, 0, 0, 0, 0))?;
     at_level(rt, b"level 254", 254, at(0, 0, 0, 0, 0))?;
     at_level(rt, b"level 255", 255, at(0, 0, 0, 0, 0))

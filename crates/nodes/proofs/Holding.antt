@@ -240,10 +240,10 @@ module _ (packed high work : List ℕ) (used v lo hi : ℕ) (ok : Makeable (pack
     packed_new work' room index link =
         let inside : used < length (levels packed) = subst (λ (n : ℕ). used < n) (sym (levels_length packed)) room in
         let made = subst₂ (λ (level low : List ℕ). let t = table level low (set high used hi) (used + 1) in MadeNew here t (node_fun here v lo hi) used × Indexing t work')
-            (sym (levels_set packed used v lo child_small)) (sym (lows_set packed used v lo child_small)) (
-              record { absent = absent here v lo hi ok differ none; made = made_new here v lo hi ok differ none inside },
-              made_linked here v lo hi ok differ none inside (heads_in work) (links_in work) (heads_in work') (links_in work') index link.0,
-            ) in
+        (sym (levels_set packed used v lo child_small)) (sym (lows_set packed used v lo child_small)) (
+          record { absent = absent here v lo hi ok differ none; made = made_new here v lo hi ok differ none inside },
+          made_linked here v lo hi ok differ none inside (heads_in work) (links_in work) (heads_in work') (links_in work') index link.0,
+        ) in
         (made.0, record { indexing = made.1; memo = link.1 })
 
     pub packed_full : length packed ≤ used → Lacking (held packed high work used) (held packed high work used) (node_fun here v lo hi)

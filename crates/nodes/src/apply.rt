@@ -92,7 +92,15 @@ fn settle_not(f: u32, g: u32) -> Option<u32>
     None
 }
 
-fn settle_fix(packed: &[u32], high: &[u32], used: u32, v: u8, b: bool, f: u32, g: u32) -> Option<u32>
+fn settle_fix(
+    packed: &[u32],
+    high: &[u32],
+    used: u32,
+    v: u8,
+    b: bool,
+    f: u32,
+    g: u32,
+) -> Option<u32>
     requires operands { Operands (packed_table packed.now high.now used) (Operation.Fix v b) f g }
     ensures { Settles (packed_table packed.now high.now used) (Operation.Fix v b) f g result }
 {
@@ -193,9 +201,7 @@ impl<'packed, 'high, 'work> Manager<'packed, 'high, 'work> {
             Operation::And => settle_and(f, g),
             Operation::Or => settle_or(f, g),
             Operation::Not => settle_not(f, g),
-            Operation::Fix(v, b) => {
-                settle_fix(self.packed, self.high, self.used, v, b, f, g)
-            }
+            Operation::Fix(v, b) => { settle_fix(self.packed, self.high, self.used, v, b, f, g) }
         }
     }
 

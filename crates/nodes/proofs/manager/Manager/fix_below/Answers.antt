@@ -6,7 +6,6 @@ use Rattle.nodes.proofs.Singles.{maps_fixed}
 use Rattle.nodes.proofs.Stopping.{full_below, stopped_maps}
 use Rattle.nodes.proofs.manager.Manager.fix_below.Goals as goal
 
-
 pub returns-in_err-g : goal.returns-in_err-g
 returns-in_err-g c =
     let a = c.args in
@@ -17,4 +16,3 @@ returns-in_err-g c =
 
 pub loop-v-preserved : goal.loop-v-preserved
 loop-v-preserved c = maps_fixed c.loop-v.v c.args.c c.digit_at.ensures c.loop-v.invariant c.in_ok-g.ensures
-

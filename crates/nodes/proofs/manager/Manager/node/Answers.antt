@@ -9,7 +9,7 @@ use Rattle.nodes.proofs.manager.Manager.node.Goals as goal
 
 pub returns-then-not-is_deeper : goal.returns-then-not-is_deeper
 returns-then-not-is_deeper c = not_chosen (entering c.args.self.now) c.args.v c.requires refl (elim c.then-not-is_deeper.branch [
-  then-not-is_deeper-via-then-not-is_deeper w ↦ inl (sym c.is_deeper.ensures ∙ w.if-not-is_deeper.true)
+  | then-not-is_deeper-via-then-not-is_deeper w ↦ inl (sym c.is_deeper.ensures ∙ w.if-not-is_deeper.true)
   | then-not-is_deeper-via-else-not-is_deeper+then-not-is_deeper-2 w ↦ inr (sym w.is_deeper-else-not-is_deeper.ensures ∙ w.if-not-is_deeper-2.true)
 ])
 
