@@ -1,8 +1,8 @@
 // ∧, ∨, ¬ and fixing a level by one recursion over the entries of the operands.
-ghost use Rattle.std.specs.Prelude.{◌≡◌, cond, ◌≤◌, ◌<◌, min, max, length, get_or};
-ghost use Rattle.nodes.specs.Fun.{both, either, negated};
+ghost use Rattle.std.specs.Prelude.{◌≡◌, cond, ◌≤◌, ◌<◌, length, get_or};
+ghost use Rattle.nodes.specs.Fun.{negated};
 ghost use Rattle.nodes.specs.internal.Packed.{packed_table, levels, lows};
-ghost use Rattle.nodes.specs.internal.Operate.{operation, number_of, turns_of, key_of, IsOperation, Operands, SettlesBy, Settles, cofactor_of, Splits, Meant};
+ghost use Rattle.nodes.specs.internal.Operate.{operation, number_of, turns_of, key_of, IsOperation, Operands, junction, SettlesBy, Settles, cofactor_of, Splits, Meant};
 ghost use Rattle.nodes.specs.Table.{constant_level, last_level, den};
 ghost use Rattle.nodes.specs.internal.Make.{Makeable, node_fun};
 ghost use Rattle.nodes.specs.internal.Lent.{table_of, entering, leaving};
@@ -37,45 +37,17 @@ impl Operation {
     }
 }
 
-// Kept: settle_and and settle_or differ in each constant that they test, and one function of both would take the constants as parameters.
-fn settle_and(f: u32, g: u32) -> Option<u32>
-    ensures { SettlesBy both f g result }
+// ∧ (the constant that decides is false) and ∨ (true): the other constant leaves the other operand.
+fn settle_junction(f: u32, g: u32, decisive: bool) -> Option<u32>
+    ensures { SettlesBy (junction decisive) f g result }
 {
-    if f == 0 {
-        return Some(0);
+    let decides = decisive as u32;
+    let leaves = 1 - decides;
+    if f == decides || g == leaves || f == g {
+        return Some(f);
     }
-    if g == 0 {
-        return Some(0);
-    }
-    if f == 1 {
+    if g == decides || f == leaves {
         return Some(g);
-    }
-    if g == 1 {
-        return Some(f);
-    }
-    if f == g {
-        return Some(f);
-    }
-    None
-}
-
-fn settle_or(f: u32, g: u32) -> Option<u32>
-    ensures { SettlesBy either f g result }
-{
-    if f == 1 {
-        return Some(1);
-    }
-    if g == 1 {
-        return Some(1);
-    }
-    if f == 0 {
-        return Some(g);
-    }
-    if g == 0 {
-        return Some(f);
-    }
-    if f == g {
-        return Some(f);
     }
     None
 }
@@ -112,18 +84,6 @@ fn settle_fix(packed: &[u32], high: &[u32], used: u32, v: u8, b: bool, f: u32, g
         return Some(high[at]);
     }
     Some(word % MAX_LENGTH)
-}
-
-pub(crate) fn smaller(a: u8, b: u8) -> u8
-    ensures { result ≡ min a b }
-{
-    if a < b { a } else { b }
-}
-
-pub fn larger(a: u8, b: u8) -> u8
-    ensures { result ≡ max a b }
-{
-    if a < b { b } else { a }
 }
 
 // The level of an entry.
@@ -190,8 +150,8 @@ impl<'packed, 'high, 'work> Manager<'packed, 'high, 'work> {
         ensures { Settles (table_of self.now) op f g result }
     {
         match op {
-            Operation::And => settle_and(f, g),
-            Operation::Or => settle_or(f, g),
+            Operation::And => settle_junction(f, g, false),
+            Operation::Or => settle_junction(f, g, true),
             Operation::Not => settle_not(f, g),
             Operation::Fix(v, b) => {
                 settle_fix(self.packed, self.high, self.used, v, b, f, g)
@@ -205,7 +165,7 @@ impl<'packed, 'high, 'work> Manager<'packed, 'high, 'work> {
         requires is_node { 2 ≤ f }
         ensures { Splits (table_of self.now) f g result }
     {
-        let v = smaller(level_of(self.packed, f), level_of(self.packed, g));
+        let v = level_of(self.packed, f).min(level_of(self.packed, g));
         Split {
             v,
             f0: low_cofactor(self.packed, f, v),

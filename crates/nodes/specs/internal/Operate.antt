@@ -56,6 +56,11 @@ pub record Operands (t : Table) (o : Operation) (f g : ℕ) : Type 0 where
   pub left : f < t.used
   pub right : g < t.used
 
+-- ∨ and ∧, by the constant that decides them
+abbrev pub junction : Bool → Fun → Fun → Fun
+junction true f g = either f g
+junction false f g = both f g
+
 -- the answer of h is known from the entries' numbers, or the first is a node
 abbrev pub SettlesBy : (Fun → Fun → Fun) → ℕ → ℕ → Option ℕ → Type 0
 SettlesBy h f g (Some k) = (t : Table) → 2 ≤ t.used → f < t.used → g < t.used → (k < t.used) × (den t k ≡ h (den t f) (den t g))

@@ -25,5 +25,5 @@ high_cofactor-requires-2 c = entry_inside _ c.args.self.now.high.now _ c.require
 
 pub returns : goal.returns
 returns c =
-    splits _ _ _ _ _ c.requires.operands c.requires.is_node (c.smaller-v.ensures ∙ ap₂ min c.level_of.ensures c.level_of-2.ensures)
+    splits _ _ _ _ _ c.requires.operands c.requires.is_node (c.min-v.ensures ∙ ap₂ min c.level_of.ensures c.level_of-2.ensures)
     _ _ _ _ c.low_cofactor.ensures c.high_cofactor.ensures c.low_cofactor-2.ensures c.high_cofactor-2.ensures
