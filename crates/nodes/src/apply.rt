@@ -52,14 +52,11 @@ fn settle_junction(f: u32, g: u32, decisive: bool) -> Option<u32>
     None
 }
 
-fn settle_not(f: u32, g: u32) -> Option<u32>
-    ensures { SettlesBy (λ x y. negated x) f g result }
+fn settle_not(f: u32) -> Option<u32>
+    ensures { SettlesBy (λ x y. negated x) f f result }
 {
-    if f == 0 {
-        return Some(1);
-    }
-    if f == 1 {
-        return Some(0);
+    if f < 2 {
+        return Some(1 - f);
     }
     None
 }
@@ -152,7 +149,7 @@ impl<'packed, 'high, 'work> Manager<'packed, 'high, 'work> {
         match op {
             Operation::And => settle_junction(f, g, false),
             Operation::Or => settle_junction(f, g, true),
-            Operation::Not => settle_not(f, g),
+            Operation::Not => settle_not(f),
             Operation::Fix(v, b) => {
                 settle_fix(self.packed, self.high, self.used, v, b, f, g)
             }
