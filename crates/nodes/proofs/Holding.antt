@@ -19,7 +19,7 @@ use Rattle.nodes.specs.internal.Packed.{packing, levels, lows, packed_table}
 use Rattle.nodes.specs.internal.Parts.{covers, hashes, heads_at, memory_at, links_in, heads_in, memo_in}
 use Rattle.nodes.specs.internal.Index.{hash_of, coverage, Indexing, Linked, Linking, InIndex, Begins}
 use Rattle.nodes.specs.internal.Make.{Makeable, IsNode, Finds, node_fun, MadeNew, held, MakesNode, Lacking}
-use Rattle.nodes.specs.internal.Operate.{cofactor_of, slots_in, Holds, Remembers}
+use Rattle.nodes.specs.internal.Operate.{slots_in, Holds, Remembers}
 use Rattle.nodes.specs.internal.Work.{is_deeper}
 use Rattle.nodes.proofs.Parting.{index_fits, packed_level, packed_low, packed_again, levels_length, level_at, low_at, levels_set, lows_set, links_length, heads_length, memo_length, link_at, head_at, memo_at, same_covers, same_hashes, same_memory, links_set_link, heads_set_link, memo_set_link, links_set_head, heads_set_head, memo_set_head, links_set_memo, heads_set_memo, memo_set_memo}
 use Rattle.nodes.proofs.Indexing.{coverage_none, coverage_some, coverage_le, Chained, chained_start, chained_next, chain_falls, chain_within, linked_none, linked_at}
@@ -41,15 +41,6 @@ module _ (packed high : List ℕ) (used v lo hi i : ℕ) where
   node_word n = sym (packed_again (get_or packed i 0)) ∙ ap₂ packing (sym (level_at packed i) ∙ n.level) (sym (low_at packed i) ∙ n.low)
 
 module _ (packed : List ℕ) (f v : ℕ) where
-  pub low_taken : get_or packed f 0 / max_length ≡ v → get_or packed f 0 % max_length ≡ cofactor_of (levels packed) (lows packed) f v
-  low_taken e = sym (ap (λ (b : Bool). cond b (get_or (lows packed) f 0) f) (eq-eqb _ _ (level_at packed f ∙ e)) ∙ low_at packed f)
-
-  pub high_taken : (high : List ℕ) → get_or packed f 0 / max_length ≡ v → get_or high f 0 ≡ cofactor_of (levels packed) high f v
-  high_taken high e = sym (ap (λ (b : Bool). cond b (get_or high f 0) f) (eq-eqb _ _ (level_at packed f ∙ e)))
-
-  pub not_taken : (child : List ℕ) → (get_or packed f 0 / max_length ≡ v → ⊥) → f ≡ cofactor_of (levels packed) child f v
-  not_taken child n = sym (ap (λ (b : Bool). cond b (get_or child f 0) f) (ne_eqb _ _ (λ e. n (sym (level_at packed f) ∙ e))))
-
   pub deeper_inside : f < length packed → ltb v (get_or packed f 0 / max_length) ≡ is_deeper v f (levels packed)
   deeper_inside h = sym (ap₂ ◌&&◌ (lt-ltb f (length (levels packed)) (subst (λ (n : ℕ). f < n) (sym (levels_length packed)) h)) (ap (ltb v) (level_at packed f)))
 

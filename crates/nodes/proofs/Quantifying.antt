@@ -23,14 +23,14 @@ use Rattle.nodes.specs.Table.{Table, last_level, level_of, choice, den, WellForm
 use Rattle.nodes.specs.internal.Growth.{Extends, Built, Short, Answers}
 use Rattle.nodes.specs.internal.Make.{Makeable, node_fun, Held, held_table, Makes}
 use Rattle.nodes.specs.internal.Lent.{table_of, store, leaving}
-use Rattle.nodes.specs.internal.Operate.{operation, cofactor_of, Cofactor, Quantified, quantifying, Recalls, Remembered, quantified_level, quantified_entry}
+use Rattle.nodes.specs.internal.Operate.{operation, Cofactor, Quantified, quantifying, Recalls, Remembered, quantified_level, quantified_entry}
 use Rattle.nodes.specs.internal.Work.{Added, Has, Lacks, Store, Keeps, Does, grew, filled, Stands, Maps}
 use Rattle.nodes.specs.internal.Quantify.{Funs, listed, results_of, Trebled, Quantifiable, MakeableThree, node_funs, RecalledThree, MeantThree, Trebles, Trebling}
 use Rattle.nodes.proofs.Funs.{shannon, from_put, from_fixed, part_fixed, part_refl}
 use Rattle.nodes.proofs.Tables.{den_from, den_extends}
 use Rattle.nodes.proofs.Making.{answered}
 use Rattle.nodes.proofs.Stepping.{level_above}
-use Rattle.nodes.proofs.Operating.{cofactor, put_put, from_fixed_at}
+use Rattle.nodes.proofs.Operating.{put_put, from_fixed_at}
 use Rattle.nodes.proofs.Memory.{recalls}
 use Rattle.nodes.proofs.Working.{Within, added_none, added_then, added_within, lacks_within, grows_built, lacks_short, contrary, does_then, used_one}
 
@@ -249,14 +249,6 @@ module _ (v : ℕ) (F : Fun) where
         (subst (Part (exists v F)) (sym exists_turned) (part_fixed (from_exists ff) b))
 
 -- ---- an entry that does not read v, or has it on top
-
--- an entry with a level fixed that it may have on top
-module _ {t : Table} {v f : ℕ} (ok : Quantifiable t v f) (top : v ≤ level_of t f) {i : ℕ} where
-  pub low_fixed : i ≡ cofactor_of t.level t.low f v → Cofactor t f v false i
-  low_fixed e = subst (Cofactor t f v false) (sym e) (cofactor t ok.formed f ok.used false v ok.in_range top)
-
-  pub high_fixed : i ≡ cofactor_of t.level t.high f v → Cofactor t f v true i
-  high_fixed e = subst (Cofactor t f v true) (sym e) (cofactor t ok.formed f ok.used true v ok.in_range top)
 
 module _ {t : Table} {v f : ℕ} (ok : Quantifiable t v f) where
   pub settle_deeper : v < level_of t f → Trebled t t (results_of v (den t f)) (record { zero = f; one = f; any = f })

@@ -1,9 +1,8 @@
 // ∧, ∨, ¬ and fixing a level by one recursion over the entries of the operands.
-ghost use Rattle.std.specs.Prelude.{◌≡◌, cond, ◌≤◌, ◌<◌, min, max, length, get_or};
-ghost use Rattle.nodes.specs.Fun.{both, either, negated};
-ghost use Rattle.nodes.specs.internal.Packed.{packed_table, levels, lows};
-ghost use Rattle.nodes.specs.internal.Operate.{operation, number_of, turns_of, key_of, IsOperation, Operands, SettlesBy, Settles, cofactor_of, Splits, Meant};
-ghost use Rattle.nodes.specs.Table.{constant_level, last_level, den};
+ghost use Rattle.std.specs.Prelude.{◌≡◌, false, true, cond, ◌≤◌, ◌<◌};
+ghost use Rattle.nodes.specs.Fun.{negated};
+ghost use Rattle.nodes.specs.internal.Operate.{operation, number_of, turns_of, key_of, IsOperation, Operands, junction, SettlesBy, Settles, Cofactor, Meant};
+ghost use Rattle.nodes.specs.Table.{last_level, level_of, den};
 ghost use Rattle.nodes.specs.internal.Make.{Makeable, node_fun};
 ghost use Rattle.nodes.specs.internal.Lent.{table_of, entering, leaving};
 ghost use Rattle.nodes.specs.internal.Work.{Operating};
@@ -37,146 +36,35 @@ impl Operation {
     }
 }
 
-// Kept: settle_and and settle_or differ in each constant that they test, and one function of both would take the constants as parameters.
-fn settle_and(f: u32, g: u32) -> Option<u32>
-    ensures { SettlesBy both f g result }
+// ∧ (the constant that decides is false) and ∨ (true): the other constant leaves the other operand.
+fn settle_junction(f: u32, g: u32, decisive: bool) -> Option<u32>
+    ensures { SettlesBy (junction decisive) f g result }
 {
-    if f == 0 {
-        return Some(0);
+    let decides = decisive as u32;
+    let leaves = 1 - decides;
+    if f == decides || g == leaves || f == g {
+        return Some(f);
     }
-    if g == 0 {
-        return Some(0);
-    }
-    if f == 1 {
+    if g == decides || f == leaves {
         return Some(g);
     }
-    if g == 1 {
-        return Some(f);
-    }
-    if f == g {
-        return Some(f);
-    }
     None
 }
 
-fn settle_or(f: u32, g: u32) -> Option<u32>
-    ensures { SettlesBy either f g result }
-{
-    if f == 1 {
-        return Some(1);
-    }
-    if g == 1 {
-        return Some(1);
-    }
-    if f == 0 {
-        return Some(g);
-    }
-    if g == 0 {
-        return Some(f);
-    }
-    if f == g {
-        return Some(f);
-    }
-    None
-}
-
-fn settle_not(f: u32, g: u32) -> Option<u32>
-    ensures { SettlesBy (λ x y. negated x) f g result }
-{
-    if f == 0 {
-        return Some(1);
-    }
-    if f == 1 {
-        return Some(0);
-    }
-    None
-}
-
-fn settle_fix(
-    packed: &[u32],
-    high: &[u32],
-    used: u32,
-    v: u8,
-    b: bool,
-    f: u32,
-    g: u32,
-) -> Option<u32>
-    requires operands { Operands (packed_table packed.now high.now used) (Operation.Fix v b) f g }
-    ensures { Settles (packed_table packed.now high.now used) (Operation.Fix v b) f g result }
+fn settle_not(f: u32) -> Option<u32>
+    ensures { SettlesBy (λ x y. negated x) f f result }
 {
     if f < 2 {
-        return Some(f);
+        return Some(1 - f);
     }
-    let at = f as usize;
-    let word = packed[at];
-    let l = word / MAX_LENGTH;
-    if l < v as u32 {
-        return None;
-    }
-    if (v as u32) < l {
-        return Some(f);
-    }
-    if b {
-        return Some(high[at]);
-    }
-    Some(word % MAX_LENGTH)
+    None
 }
 
-pub(crate) fn smaller(a: u8, b: u8) -> u8
-    ensures { result ≡ min a b }
-{
-    if a < b { a } else { b }
-}
-
-pub fn larger(a: u8, b: u8) -> u8
-    ensures { result ≡ max a b }
-{
-    if a < b { b } else { a }
-}
-
-// The level of an entry.
-pub(crate) fn level_of(packed: &[u32], f: u32) -> u8
-    requires { (f < length packed.now) × (get_or (levels packed.now) f 0 ≤ constant_level) }
-    ensures { result ≡ get_or (levels packed.now) f 0 }
-{
-    (packed[f as usize] / MAX_LENGTH) as u8
-}
-
-// The entry of f with level v, at most f's own, fixed to false.
-pub(crate) fn low_cofactor(packed: &[u32], f: u32, v: u8) -> u32
-    requires { f < length packed.now }
-    ensures { result ≡ cofactor_of (levels packed.now) (lows packed.now) f v }
-{
-    let word = packed[f as usize];
-    if word / MAX_LENGTH == v as u32 {
-        word % MAX_LENGTH
-    } else {
-        f
-    }
-}
-
-// The same, fixed to true.
-pub(crate) fn high_cofactor(packed: &[u32], high: &[u32], f: u32, v: u8) -> u32
-    requires { (f < length packed.now) × (f < length high.now) }
-    ensures { result ≡ cofactor_of (levels packed.now) high.now f v }
-{
-    let at = f as usize;
-    let word = packed[at];
-    if word / MAX_LENGTH == v as u32 {
-        high[at]
-    } else {
-        f
-    }
-}
-
-// Two entries with the smaller one of their levels fixed to each bit.
+// An entry with a level fixed to 0, and with it fixed to 1.
 #[derive(Clone, Copy)]
-pub(crate) struct Split {
-    pub v: u8,
-    pub f0: u32,
-    pub f1: u32,
-    pub g0: u32,
-    pub g1: u32,
+pub(crate) struct Cofactors {
+    pub low: u32,
+    pub high: u32,
 }
 
 // The key of an operation's result: ∧ and ∨ have their operands by their numbers, the smaller one first.
@@ -192,32 +80,57 @@ fn key_of(op: u32, f: u32, g: u32) -> Key
 }
 
 impl<'packed, 'high, 'work> Manager<'packed, 'high, 'work> {
+    // The level of an entry in use.
+    pub(crate) fn level(&self, f: u32) -> u8
+        requires { f < self.now.used }
+        ensures { result ≡ level_of (table_of self.now) f }
+    {
+        (self.packed[f as usize] / MAX_LENGTH) as u8
+    }
+
+    // f with level v, at most its own, fixed to each bit.
+    pub(crate) fn cofactors(&self, v: u8, f: u32) -> Cofactors
+        requires { (f < self.now.used) × (v ≤ last_level) × (v ≤ level_of (table_of self.now) f) }
+        ensures low { Cofactor (table_of self.now) f v false result.low }
+        ensures high { Cofactor (table_of self.now) f v true result.high }
+    {
+        let at = f as usize;
+        let word = self.packed[at];
+        if word / MAX_LENGTH == v as u32 {
+            Cofactors {
+                low: word % MAX_LENGTH,
+                high: self.high[at],
+            }
+        } else {
+            Cofactors { low: f, high: f }
+        }
+    }
+
+    // f with level v fixed to b, where v is at most f's own.
+    fn settle_fix(&self, v: u8, b: bool, f: u32, g: u32) -> Option<u32>
+        requires { Operands (table_of self.now) (Operation.Fix v b) f g }
+        ensures { Settles (table_of self.now) (Operation.Fix v b) f g result }
+    {
+        if self.level(f) < v {
+            return None;
+        }
+        let c = self.cofactors(v, f);
+        if b {
+            return Some(c.high);
+        }
+        Some(c.low)
+    }
+
     // The answer where it is an entry at hand.
     fn settle(&self, op: Operation, f: u32, g: u32) -> Option<u32>
         requires { Operands (table_of self.now) op f g }
         ensures { Settles (table_of self.now) op f g result }
     {
         match op {
-            Operation::And => settle_and(f, g),
-            Operation::Or => settle_or(f, g),
-            Operation::Not => settle_not(f, g),
-            Operation::Fix(v, b) => { settle_fix(self.packed, self.high, self.used, v, b, f, g) }
-        }
-    }
-
-    // A node and an entry, with the smaller one of their levels fixed to each bit.
-    fn split_at_top(&self, op: Operation, f: u32, g: u32) -> Split
-        requires operands { Operands (table_of self.now) op f g }
-        requires is_node { 2 ≤ f }
-        ensures { Splits (table_of self.now) f g result }
-    {
-        let v = smaller(level_of(self.packed, f), level_of(self.packed, g));
-        Split {
-            v,
-            f0: low_cofactor(self.packed, f, v),
-            f1: high_cofactor(self.packed, self.high, f, v),
-            g0: low_cofactor(self.packed, g, v),
-            g1: high_cofactor(self.packed, self.high, g, v),
+            Operation::And => settle_junction(f, g, false),
+            Operation::Or => settle_junction(f, g, true),
+            Operation::Not => settle_not(f),
+            Operation::Fix(v, b) => self.settle_fix(v, b, f, g),
         }
     }
 
@@ -245,10 +158,11 @@ impl<'packed, 'high, 'work> Manager<'packed, 'high, 'work> {
         if let Some(k) = self.recall(s, key) {
             return Ok(k);
         }
-        let c = self.split_at_top(op, f, g);
-        let low = self.operate(op, c.f0, c.g0)?;
-        let high = self.operate(op, c.f1, c.g1)?;
-        let level = c.v;
+        let level = self.level(f).min(self.level(g));
+        let x = self.cofactors(level, f);
+        let y = self.cofactors(level, g);
+        let low = self.operate(op, x.low, y.low)?;
+        let high = self.operate(op, x.high, y.high)?;
         self.finish(Node { level, low, high }, s, key)
     }
 }

@@ -1,12 +1,12 @@
 // ∃ of a level by one recursion, which works out its three functions at a time.
-ghost use Rattle.std.specs.Prelude.{◌≡◌, false, true, ◌≤◌, ◌<◌};
+ghost use Rattle.std.specs.Prelude.{◌≡◌, ◌≤◌, ◌<◌};
 ghost use Rattle.nodes.specs.internal.Parts.{memo_in};
-ghost use Rattle.nodes.specs.internal.Operate.{last_number, quantifying, Cofactor};
+ghost use Rattle.nodes.specs.internal.Operate.{last_number, quantifying};
 ghost use Rattle.nodes.specs.Table.{max_length, last_level, level_of, den};
 ghost use Rattle.nodes.specs.internal.Lent.{table_of, entering, leaving};
 ghost use Rattle.nodes.specs.internal.Quantify.{Quantifiable, MakeableThree, MeantThree, node_funs, results_of, RecalledThree, Trebling};
 
-use super::apply::{Operation, high_cofactor, level_of, low_cofactor};
+use super::apply::Operation;
 use super::computed::{Key, remember};
 use super::limits::{CONSTANT_LEVEL, LAST_LEVEL};
 use super::manager::{Full, Manager};
@@ -35,37 +35,7 @@ fn number_of(v: u8, f: u32) -> u32
     FIRST_NUMBER + (v as u32) + f * LEVELS_EACH
 }
 
-// An entry with a level fixed to 0, and with it fixed to 1.
-#[derive(Clone, Copy)]
-pub(crate) struct Halves {
-    pub low: u32,
-    pub high: u32,
-}
-
 impl<'packed, 'high, 'work> Manager<'packed, 'high, 'work> {
-    // The level of an entry in use.
-    #[tactic(auto, using(crate::proofs::Parting::levels_length, crate::proofs::Starting::level_byte))]
-    fn level(&self, f: u32) -> u8
-        requires { f < self.now.used }
-        ensures { result ≡ level_of (table_of self.now) f }
-    {
-        level_of(self.packed, f)
-    }
-
-    // f with level v, at most its own, fixed to each bit.
-    #[tactic(auto, using(crate::proofs::Parting::levels_length))]
-    fn halves(&self, v: u8, f: u32) -> Halves
-        requires quantifiable { Quantifiable (table_of self.now) v f }
-        requires top { v ≤ level_of (table_of self.now) f }
-        ensures low { Cofactor (table_of self.now) f v false result.low }
-        ensures high { Cofactor (table_of self.now) f v true result.high }
-    {
-        Halves {
-            low: low_cofactor(self.packed, f, v),
-            high: high_cofactor(self.packed, self.high, f, v),
-        }
-    }
-
     // The results of ∃v f, where slot s of the memory has them.
     #[tactic(auto, using(crate::proofs::Holding::work_holds))]
     fn recall_three(&self, s: usize, v: u8, f: u32) -> Option<Trio>
@@ -153,7 +123,7 @@ impl<'packed, 'high, 'work> Manager<'packed, 'high, 'work> {
                 any: f,
             });
         }
-        let c = self.halves(v, f);
+        let c = self.cofactors(v, f);
         let any = self.operate(Operation::Or, c.low, c.high)?;
         Ok(Trio {
             zero: c.low,
@@ -180,7 +150,7 @@ impl<'packed, 'high, 'work> Manager<'packed, 'high, 'work> {
         if let Some(r) = self.recall_three(s, v, f) {
             return Ok(r);
         }
-        let c = self.halves(l, f);
+        let c = self.cofactors(l, f);
         let a = self.quantify(v, c.low)?;
         let b = self.quantify(v, c.high)?;
         self.finish_three(l, a, b, s, v, f)

@@ -7,7 +7,7 @@ ghost use Rattle.nodes.specs.internal.Spaced.{Spaced};
 ghost use Rattle.nodes.specs.internal.Lent.{entering, leaving, entry_of};
 ghost use Rattle.nodes.specs.internal.Work.{Lists};
 
-use super::apply::{larger, pick, smaller};
+use super::apply::pick;
 use super::levels::Levels;
 use super::manager::{Full, Manager};
 
@@ -71,6 +71,6 @@ impl<'packed, 'high, 'work> Manager<'packed, 'high, 'work> {
         requires { (v ≤ last_level) × (w ≤ last_level) × (v ≡ w → ⊥) }
         ensures { Lists (entering self.old) (leaving self.new result) (same v w) (entry_of result) }
     {
-        self.pair(smaller(v, w), larger(v, w), 1)
+        self.pair(v.min(w), v.max(w), 1)
     }
 }

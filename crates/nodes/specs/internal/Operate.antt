@@ -2,7 +2,6 @@
 use Rattle.std.specs.Prelude.{◌≡◌, ◌⊎◌, Bool, true, false, cond, ◌&&◌, List, ℕ, zero, suc, ◌+◌, ◌-◌, ◌*◌, ◌/◌, ◌%◌, ◌≤◌, ◌<◌, min, eqb, ltb, length, get_or, set, Option, Some, None}
 use Rattle.nodes.specs.declared.apply.Operation.{Operation}
 use Rattle.nodes.specs.declared.apply.Operation.TheVariants.{And, Or, Not, Fix}
-use Rattle.nodes.specs.declared.apply.Split.{Split}
 use Rattle.nodes.specs.declared.computed.Key.{Key}
 use Rattle.nodes.specs.Fun.{Fun, both, either, negated, fixed, exists, digit}
 use Rattle.nodes.specs.Table.{Table, last_level, constant_level, max_length, level_of, den, WellFormed}
@@ -56,6 +55,11 @@ pub record Operands (t : Table) (o : Operation) (f g : ℕ) : Type 0 where
   pub left : f < t.used
   pub right : g < t.used
 
+-- ∨ and ∧, by the constant that decides them
+abbrev pub junction : Bool → Fun → Fun → Fun
+junction true f g = either f g
+junction false f g = both f g
+
 -- the answer of h is known from the entries' numbers, or the first is a node
 abbrev pub SettlesBy : (Fun → Fun → Fun) → ℕ → ℕ → Option ℕ → Type 0
 SettlesBy h f g (Some k) = (t : Table) → 2 ≤ t.used → f < t.used → g < t.used → (k < t.used) × (den t k ≡ h (den t f) (den t g))
@@ -73,10 +77,6 @@ abbrev pub Settles : Table → Operation → ℕ → ℕ → Option ℕ → Type
 Settles t o f g (Some k) = (k < t.used) × (den t k ≡ operation o (den t f) (den t g))
 Settles t o f g None = (2 ≤ f) × IsAbove t o f
 
--- the child of f where f has level v, and f itself where its level is larger
-abbrev pub cofactor_of : List ℕ → List ℕ → ℕ → ℕ → ℕ
-cofactor_of level child f v = cond (eqb (get_or level f 0) v) (get_or child f 0) f
-
 -- entry r stands for what f stands for with level v fixed to b
 pub record Cofactor (t : Table) (f v : ℕ) (b : Bool) (r : ℕ) : Type 0 where
   pub used : r < t.used
@@ -84,14 +84,6 @@ pub record Cofactor (t : Table) (f v : ℕ) (b : Bool) (r : ℕ) : Type 0 where
   pub stands : den t r ≡ fixed v b (den t f)
   pub most : r ≤ f
   pub less : level_of t f ≡ v → r < f
-
--- f and g with the smaller one of their levels fixed to each bit
-pub record Splits (t : Table) (f g : ℕ) (s : Split) : Type 0 where
-  pub level : s.v ≡ min (level_of t f) (level_of t g)
-  pub low_left : Cofactor t f s.v false s.f0
-  pub high_left : Cofactor t f s.v true s.f1
-  pub low_right : Cofactor t g s.v false s.g0
-  pub high_right : Cofactor t g s.v true s.g1
 
 -- A memory of results: a list of any length, in slots of four numbers, the first of which is 0 in an empty slot. A slot of an operation has its
 -- number plus 1, the operands and the result. A slot of ∃v f has `quantifying v f` plus 1, and the three results.

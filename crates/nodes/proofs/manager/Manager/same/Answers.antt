@@ -3,4 +3,4 @@ use Rattle.nodes.proofs.Singles.{lists_sorted}
 use Rattle.nodes.proofs.manager.Manager.same.Goals as goal
 
 pub returns : goal.returns
-returns c = lists_sorted c.args.v c.args.w c.smaller.ensures c.larger.ensures c.pair.ensures
+returns c = lists_sorted c.args.v c.args.w c.min.ensures c.max.ensures c.pair.ensures

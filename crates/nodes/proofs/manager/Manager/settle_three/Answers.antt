@@ -13,12 +13,12 @@ returns-then-v-l c =
 pub returns-in_err-any : goal.returns-in_err-any
 returns-in_err-any c =
     let x = c.in_err-any.ensures in
-    let h = c.halves-c.ensures in
+    let h = c.cofactors-c.ensures in
     let r = c.from_residual in
     stopped_three c.operate.new.self r.result r.ensures.0 x.kept (settle_lacks c.requires.quantifiable h.low h.high x.answers)
 
 pub returns : goal.returns
 returns c =
     let x = c.in_ok-any.ensures in
-    let h = c.halves-c.ensures in
+    let h = c.cofactors-c.ensures in
     record { kept = x.kept; answers = settle_joined c.requires.quantifiable h.low h.high x.answers }
