@@ -184,12 +184,6 @@ impl<'packed, 'high, 'work> Manager<'packed, 'high, 'work> {
         ensures kept { Keeps (entering self.old) (leaving self.new result) }
         ensures makes { Makes (held_by self.old) (held_by self.new) (node_fun (table_of self.old) node.level node.low node.high) result }
     {
-        make(
-            self.packed,
-            self.high,
-            self.work,
-            &mut self.used,
-            node,
-        )
+        make(self.packed, self.high, self.work, &mut self.used, node)
     }
 }

@@ -7,13 +7,17 @@ use Rattle.nodes.proofs.apply.settle_junction.Goals as goal
 
 pub returns-then-f-decides : goal.returns-then-f-decides
 returns-then-f-decides c t some left right =
-    let a = c.args in
-    (left, ⊎_elim (junction_decided t a.decisive a.f a.g)
-    (⊎_elim (λ x. junction_left t a.decisive a.f a.g x.1) (λ x. junction_alike t a.decisive a.f a.g x.2))
-    c.then-f-decides.either)
+    let a = c.args in (
+      left,
+      ⊎_elim (junction_decided t a.decisive a.f a.g)
+          (⊎_elim (λ x. junction_left t a.decisive a.f a.g x.1) (λ x. junction_alike t a.decisive a.f a.g x.2))
+          c.then-f-decides.either,
+    )
 
 pub returns-then-g-decides : goal.returns-then-g-decides
 returns-then-g-decides c t some left right =
-    let a = c.args in
-    (right, ⊎_elim (junction_decided t a.decisive a.g a.f) (λ x. junction_left t a.decisive a.g a.f x.1) c.then-g-decides.either
-    ∙ junction_turned a.decisive (den t a.g) (den t a.f))
+    let a = c.args in (
+      right,
+      ⊎_elim (junction_decided t a.decisive a.g a.f) (λ x. junction_left t a.decisive a.g a.f x.1) c.then-g-decides.either
+          ∙ junction_turned a.decisive (den t a.g) (den t a.f),
+    )

@@ -1,6 +1,6 @@
 -- `nodes::digit_at` meets its contract: a digit of m is digit k of n, one place lower after each turn. Assumes nothing.
-use mathlib.Core.Path.{◌≡◌, refl, sym, ap, ◌∙◌}
-use Prim.Native.Nat.{ℕ, ◌+◌, ◌-◌, ◌/◌}
+use mathlib.Core.Path.{◌≡◌, sym, ap, ◌∙◌}
+use Prim.Native.Nat.{◌+◌, ◌-◌, ◌/◌}
 use native.Mathlib.Omega.{arith}
 use Rattle.nodes.specs.Formula.{bit}
 use Rattle.nodes.proofs.Bits.{bit_step, bit_end}

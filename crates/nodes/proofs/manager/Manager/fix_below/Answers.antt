@@ -1,10 +1,10 @@
 -- `nodes::fix_below` meets its contract, level by level: those below v are fixed. Assumes nothing.
-use mathlib.Core.Path.{◌≡◌, refl, sym, subst}
+use mathlib.Core.Path.{◌≡◌, refl, subst}
 use mathlib.Core.Bool.{Bool, true}
 use Prim.Native.Nat.{ℕ, ◌+◌}
 use native.Mathlib.Omega.{arith}
 use Rattle.nodes.specs.Formula.{fix_below, fix}
-use Rattle.nodes.specs.internal.Lent.{store, entering, leaving}
+use Rattle.nodes.specs.internal.Lent.{store, entering}
 use Rattle.nodes.specs.internal.Work.{Maps}
 use Rattle.nodes.proofs.Singles.{maps_none, fixed_none, maps_fixed}
 use Rattle.nodes.proofs.Stopping.{full_below, stopped_maps}
