@@ -4,23 +4,19 @@
 --     packed_new, packed_full   a node that is made in packed lists
 use mathlib.Core.Path.{◌≡◌, refl, sym, ap, ap₂, ◌∙◌, subst, subst₂}
 use mathlib.Core.Logic.{inl, inr}
-use mathlib.Core.Bool.{Bool, false, cond, ◌&&◌}
 use mathlib.Core.List.{List}
 use Prim.Native.Nat.{ℕ, ◌+◌, ◌*◌, ◌/◌, ◌%◌, ◌<◌, ◌≤◌}
 use native.Mathlib.Omega.{arith}
-use lib.Dec.{ltb}
 use lib.ListN.{length, get_or, set}
-use borrow.Author.Tests.{eq-eqb, ne_eqb, lt-ltb, le-ltb}
 use Rattle.std.specs.Prelude.{None, Ok}
 use Rattle.nodes.specs.declared.unique.MadeNode.TheVariants.{New}
 use Rattle.nodes.specs.declared.computed.Key.{Key}
 use Rattle.nodes.specs.Table.{Table, table, max_length}
-use Rattle.nodes.specs.internal.Packed.{packing, levels, lows, packed_table}
+use Rattle.nodes.specs.internal.Packed.{packing, levels, packed_table}
 use Rattle.nodes.specs.internal.Parts.{covers, hashes, heads_at, memory_at, links_in, heads_in, memo_in}
 use Rattle.nodes.specs.internal.Index.{hash_of, coverage, Indexing, Linked, Linking, InIndex, Begins}
 use Rattle.nodes.specs.internal.Make.{Makeable, IsNode, Finds, node_fun, MadeNew, held, MakesNode, Lacking}
 use Rattle.nodes.specs.internal.Operate.{slots_in, Holds, Remembers}
-use Rattle.nodes.specs.internal.Work.{is_deeper}
 use Rattle.nodes.proofs.Parting.{index_fits, packed_level, packed_low, packed_again, levels_length, level_at, low_at, levels_set, lows_set, links_length, heads_length, memo_length, link_at, head_at, memo_at, same_covers, same_hashes, same_memory, links_set_link, heads_set_link, memo_set_link, links_set_head, heads_set_head, memo_set_head, links_set_memo, heads_set_memo, memo_set_memo}
 use Rattle.nodes.proofs.Indexing.{coverage_none, coverage_some, coverage_le, Chained, chained_start, chained_next, chain_falls, chain_within, linked_none, linked_at}
 use Rattle.nodes.proofs.Making.{absent, made_new, made_linked}
@@ -39,13 +35,6 @@ module _ (packed high : List ℕ) (used v lo hi i : ℕ) where
 
   pub node_word : IsNode (packed_table packed high used) v lo hi i → get_or packed i 0 ≡ packing v lo
   node_word n = sym (packed_again (get_or packed i 0)) ∙ ap₂ packing (sym (level_at packed i) ∙ n.level) (sym (low_at packed i) ∙ n.low)
-
-module _ (packed : List ℕ) (f v : ℕ) where
-  pub deeper_inside : f < length packed → ltb v (get_or packed f 0 / max_length) ≡ is_deeper v f (levels packed)
-  deeper_inside h = sym (ap₂ ◌&&◌ (lt-ltb f (length (levels packed)) (subst (λ (n : ℕ). f < n) (sym (levels_length packed)) h)) (ap (ltb v) (level_at packed f)))
-
-  pub deeper_outside : length packed ≤ f → false ≡ is_deeper v f (levels packed)
-  deeper_outside h = sym (ap (λ (b : Bool). b && ltb v (get_or (levels packed) f 0)) (le-ltb f (length (levels packed)) (subst (λ (n : ℕ). n ≤ f) (sym (levels_length packed)) h)))
 
 -- ---- the index
 

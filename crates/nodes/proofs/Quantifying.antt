@@ -340,15 +340,6 @@ module _ {t : Table} {v f l f0 f1 : ℕ} (sp : Above t v f l f0 f1) where
   from : From l (den t f)
   from = subst (λ (k : ℕ). From k (den t f)) (sym sp.top) (den_from t sp.ok.formed f sp.ok.used)
 
-  pub falls_low : f0 < f
-  falls_low = sp.low.less (sym sp.top)
-
-  pub falls_high : f1 < f
-  falls_high = sp.high.less (sym sp.top)
-
-  pub quantify_low : Quantifiable t v f0
-  quantify_low = record { formed = sp.ok.formed; in_range = sp.ok.in_range; used = sp.low.used }
-
   within_low : Within (listed (results_of v (den t f0))) (listed H)
   within_low = subst (λ (F : Fun). Within (listed (results_of v F)) (listed H)) (sym sp.low.stands) (within_fixed v (den t f) l differ false from)
 
@@ -356,12 +347,6 @@ module _ {t : Table} {v f l f0 f1 : ℕ} (sp : Above t v f l f0 f1) where
   quantify_short_1 x = lacks_within within_low x
 
   module _ {t₁ : Table} {a : Trio} (first : Trebled t t₁ (results_of v (den t f0)) a) where
-    pub quantify_high : Quantifiable t₁ v f1
-    quantify_high =
-        let x = first.added.extends.longer in
-        let u = sp.high.used in
-        record { formed = first.added.formed; in_range = sp.ok.in_range; used = omega arith }
-
     high_same : den t₁ f1 ≡ fixed l true (den t f)
     high_same = den_extends t sp.ok.formed t₁ first.added.extends f1 sp.high.used ∙ sp.high.stands
 

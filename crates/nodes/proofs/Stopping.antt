@@ -4,15 +4,15 @@
 --     full_..           what is left to do on a full manager
 --     stopped_..        a function that ends early, by the answer of the call that did not fit
 use mathlib.Core.Path.{◌≡◌, refl, sym, ap, subst}
-use mathlib.Core.Bool.{Bool, true, false, ◌&&◌}
+use mathlib.Core.Bool.{Bool, true, false}
 use mathlib.Core.Logic.{⊎_elim}
 use mathlib.Core.List.Memᴰ
-use mathlib.Core.List.{List, [], ◌∷◌, ◌++◌, Memᴰ}
+use mathlib.Core.List.{◌++◌}
 use Prim.Native.Nat.{ℕ, zero, suc, ◌+◌, ◌-◌, ◌≤◌}
 use native.Mathlib.Omega.{arith}
-use Rattle.std.specs.Prelude.{Result, Ok, Err, IsErr, is_err}
-use Rattle.nodes.specs.Fun.{Fun, From}
-use Rattle.nodes.specs.Formula.{Formula, ⟪◌⟫, ◌∧'◌, ◌∨'◌, ¬'◌, fix, some, results, renamed, fix_below}
+use Rattle.std.specs.Prelude.{Result, Ok, Err, IsErr}
+use Rattle.nodes.specs.Fun.{Fun}
+use Rattle.nodes.specs.Formula.{Formula, ◌∧'◌, ◌∨'◌, ¬'◌, fix, some, results, renamed, fix_below}
 use Rattle.nodes.specs.Needed.{Among}
 use Rattle.nodes.specs.declared.manager.Full.{Full}
 use Rattle.nodes.specs.declared.manager.Manager.{Manager}
@@ -20,9 +20,9 @@ use Rattle.nodes.specs.internal.Growth.{Short}
 use Rattle.nodes.specs.internal.Lent.{table_of, store, leaving, entry_of}
 use Rattle.nodes.specs.internal.Several.{some_from, renamed_from}
 use Rattle.nodes.specs.internal.Single.{Guards}
-use Rattle.nodes.specs.internal.Work.{Store, Keeps, Does, stayed, Operating, Stands, Gives, Lists, Continues, Maps, Joins, Uses₁, Uses₂, Applies, Chooses, is_deeper}
+use Rattle.nodes.specs.internal.Work.{Store, Keeps, stayed, Operating, Gives, Lists, Continues, Maps, Joins, Uses₁, Uses₂, Chooses}
 use Rattle.nodes.proofs.Singles.{one_less, renamed_more}
-use Rattle.nodes.proofs.Working.{contrary, keeps_none, full_more, does_then, stands_kept}
+use Rattle.nodes.proofs.Working.{contrary, keeps_none, full_more, does_then}
 
 -- ---- the lists of formulas with operands
 

@@ -36,7 +36,7 @@ impl Operation {
     }
 }
 
-// ∧ (the constant that decides is false) and ∨ (true): the other constant leaves the other operand.
+// ∧, which false decides, or ∨, which true decides. The other constant leaves the other operand.
 fn settle_junction(f: u32, g: u32, decisive: bool) -> Option<u32>
     ensures { SettlesBy (junction decisive) f g result }
 {
@@ -107,9 +107,9 @@ impl<'packed, 'high, 'work> Manager<'packed, 'high, 'work> {
     }
 
     // f with level v fixed to b, where v is at most f's own.
-    fn settle_fix(&self, v: u8, b: bool, f: u32, g: u32) -> Option<u32>
-        requires { Operands (table_of self.now) (Operation.Fix v b) f g }
-        ensures { Settles (table_of self.now) (Operation.Fix v b) f g result }
+    fn settle_fix(&self, v: u8, b: bool, f: u32) -> Option<u32>
+        requires { (f < self.now.used) × (v ≤ last_level) }
+        ensures { Settles (table_of self.now) (Operation.Fix v b) f f result }
     {
         if self.level(f) < v {
             return None;
@@ -130,7 +130,7 @@ impl<'packed, 'high, 'work> Manager<'packed, 'high, 'work> {
             Operation::And => settle_junction(f, g, false),
             Operation::Or => settle_junction(f, g, true),
             Operation::Not => settle_not(f),
-            Operation::Fix(v, b) => self.settle_fix(v, b, f, g),
+            Operation::Fix(v, b) => self.settle_fix(v, b, f),
         }
     }
 

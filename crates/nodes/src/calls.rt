@@ -1,14 +1,12 @@
 // Calls one after the other on one table. Each works a function out, and answers its entry.
 ghost use Rattle.std.specs.Prelude.{◌≡◌, ◌≤◌};
-ghost use Rattle.nodes.specs.internal.Packed.{levels};
 ghost use Rattle.nodes.specs.internal.Operate.{IsOperation};
 ghost use Rattle.nodes.specs.Table.{last_level};
 ghost use Rattle.nodes.specs.Formula.{◌∧'◌, ◌∨'◌, ¬'◌, fix, some};
 ghost use Rattle.nodes.specs.internal.Lent.{entering, leaving, entry_of};
-ghost use Rattle.nodes.specs.internal.Work.{is_deeper, Applies, Joins, Maps, Chooses};
+ghost use Rattle.nodes.specs.internal.Work.{Applies, Joins, Maps, Chooses};
 
 use super::apply::Operation;
-use super::limits::MAX_LENGTH;
 use super::manager::{Full, Manager};
 use super::unique::Node;
 
@@ -65,17 +63,6 @@ impl<'packed, 'high, 'work> Manager<'packed, 'high, 'work> {
         Ok(r.any)
     }
 
-    // Whether f is an entry whose level is above v.
-    #[tactic(auto, using(crate::proofs::Choosing::deeper_inside, crate::proofs::Choosing::deeper_outside))]
-    fn is_deeper(&self, v: u8, f: u32) -> bool
-        ensures { result ≡ is_deeper v f (levels self.now.packed.now) }
-    {
-        match self.packed.get(f as usize) {
-            Some(word) => (v as u32) < *word / MAX_LENGTH,
-            None => false,
-        }
-    }
-
     // The node of level v over low and high, which stand for functions of higher levels. Where there can be none, the answer is low.
     pub fn node(&mut self, v: u8, low: u32, high: u32) -> Result<u32, Full>
         requires { v ≤ last_level }
@@ -84,7 +71,7 @@ impl<'packed, 'high, 'work> Manager<'packed, 'high, 'work> {
         if !self.are_used(low, high) {
             return Ok(low);
         }
-        if !self.is_deeper(v, low) || !self.is_deeper(v, high) {
+        if self.level(low).min(self.level(high)) <= v {
             return Ok(low);
         }
         let level = v;

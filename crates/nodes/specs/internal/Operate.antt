@@ -1,11 +1,10 @@
 -- The operations on entries, and the memory of their results. Assumes nothing.
-use Rattle.std.specs.Prelude.{◌≡◌, ◌⊎◌, Bool, true, false, cond, ◌&&◌, List, ℕ, zero, suc, ◌+◌, ◌-◌, ◌*◌, ◌/◌, ◌%◌, ◌≤◌, ◌<◌, min, eqb, ltb, length, get_or, set, Option, Some, None}
+use Rattle.std.specs.Prelude.{◌≡◌, ◌⊎◌, Bool, true, false, cond, ◌&&◌, List, ℕ, zero, suc, ◌+◌, ◌-◌, ◌*◌, ◌/◌, ◌%◌, ◌≤◌, ◌<◌, eqb, ltb, length, get_or, set, Option, Some, None}
 use Rattle.nodes.specs.declared.apply.Operation.{Operation}
 use Rattle.nodes.specs.declared.apply.Operation.TheVariants.{And, Or, Not, Fix}
 use Rattle.nodes.specs.declared.computed.Key.{Key}
 use Rattle.nodes.specs.Fun.{Fun, both, either, negated, fixed, exists, digit}
 use Rattle.nodes.specs.Table.{Table, last_level, constant_level, max_length, level_of, den, WellFormed}
-use Rattle.nodes.specs.internal.Packed.{levels, lows}
 use Rattle.nodes.specs.internal.Parts.{memory_at, links_in, heads_in, memo_in}
 use Rattle.nodes.specs.internal.Index.{Indexed}
 

@@ -4,7 +4,7 @@ use Rattle.nodes.specs.declared.manager.Full.{Full}
 use Rattle.nodes.specs.declared.quantify.Trio.{Trio}
 use Rattle.nodes.specs.Fun.{Fun, fixed, exists}
 use Rattle.nodes.specs.Table.{Table, last_level, den, Entry, WellFormed}
-use Rattle.nodes.specs.internal.Make.{Makeable, node_fun, Held, held_table, Serves}
+use Rattle.nodes.specs.internal.Make.{Makeable, node_fun}
 use Rattle.nodes.specs.internal.Operate.{Holds}
 use Rattle.nodes.specs.internal.Work.{Added, Lacks, Store, Keeps}
 

@@ -1,5 +1,5 @@
 -- The proof of the cycle of calls {operate}. Each way out is a law of `proofs/Recursion.antt`. Assumes nothing.
-use mathlib.Core.Path.{◌≡◌, ◌∙◌, ap, ap₂}
+use mathlib.Core.Path.{◌∙◌, ap, ap₂}
 use Prim.Native.Nat.{ℕ, min}
 use Rattle.nodes.specs.internal.Parts.{memo_in}
 use Rattle.nodes.specs.internal.Lent.{table_of}
