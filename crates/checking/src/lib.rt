@@ -22,6 +22,7 @@ const LENGTH: usize = 4096;
 const LIMIT: u64 = 1000000;
 
 // What the line of one mode says.
+// Kept: number and side of a refusal are what the line shows.
 #[derive(Clone, Copy)]
 pub enum Line {
     Equal { rounds: u64, nodes: u32 },

@@ -16,6 +16,7 @@ const NO_DIGIT: u8 = 16;
 
 // All that is kept of the bytes read so far: whether one was no digit, the value of the digit that waits for its second, how many bytes were
 // spelt (256 stands for every larger count), and the first 255 of these, a stray byte read as a 0, with zeros after them.
+// Kept: an array with its count beside it, since there is no heap.
 #[derive(Clone, Copy)]
 pub struct Decoder {
     pub stray: bool,

@@ -34,6 +34,20 @@ impl Operation {
             Operation::Fix(v, b) => 3 + 2 * (v as u32) + (b as u32),
         }
     }
+
+    // The key of its result: ∧ and ∨ have their operands by their numbers, the smaller one first.
+    fn key(self, f: u32, g: u32) -> Key
+        requires { IsOperation self }
+        ensures { result ≡ key_of (number_of self) f g }
+    {
+        let number = self.number();
+        let turned = number < 2 && g < f;
+        Key {
+            number,
+            left: pick(turned, g, f),
+            right: pick(turned, f, g),
+        }
+    }
 }
 
 // ∧, which false decides, or ∨, which true decides. The other constant leaves the other operand.
@@ -65,18 +79,6 @@ fn settle_not(f: u32) -> Option<u32>
 pub(crate) struct Cofactors {
     pub low: u32,
     pub high: u32,
-}
-
-// The key of an operation's result: ∧ and ∨ have their operands by their numbers, the smaller one first.
-fn key_of(op: u32, f: u32, g: u32) -> Key
-    ensures { result ≡ key_of op f g }
-{
-    let turned = op < 2 && g < f;
-    Key {
-        number: op,
-        left: pick(turned, g, f),
-        right: pick(turned, f, g),
-    }
 }
 
 impl<'packed, 'high, 'work> Manager<'packed, 'high, 'work> {
@@ -153,7 +155,7 @@ impl<'packed, 'high, 'work> Manager<'packed, 'high, 'work> {
         if let Some(k) = self.settle(op, f, g) {
             return Ok(k);
         }
-        let key = key_of(op.number(), f, g);
+        let key = op.key(f, g);
         let s = self.slot_for(key);
         if let Some(k) = self.recall(s, key) {
             return Ok(k);

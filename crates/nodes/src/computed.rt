@@ -7,6 +7,7 @@ use super::manager::Manager;
 use super::work::{memory_at, slot, slots};
 
 // What a result is found by: the number of an operation, or that of ∃ of a level and an entry, and two entries.
+// Kept: the number is a word of the memory, where those of ∃ stand behind those of the operations.
 #[derive(Clone, Copy)]
 pub(crate) struct Key {
     pub number: u32,

@@ -9,6 +9,7 @@ ghost use Rattle.nodes.specs.internal.Packed.{packed_table};
 pub struct Full;
 
 // The table in two slices, the work slice that serves it, and how many entries are in use.
+// Kept: nodes are entries with numbers, in slices that the caller lends; document 01 and the C interface have them so, and there is no heap.
 #[derive(Drop)]
 pub struct Manager<'packed, 'high, 'work> {
     pub(crate) packed: &'packed mut [u32],

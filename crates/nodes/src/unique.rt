@@ -157,6 +157,7 @@ fn make_node(
 }
 
 // The same entry; where the node is new, one entry more is in use.
+// Kept: the manager's fields are lent here one by one, since what its ghost fields say does not hold before all of them are written.
 fn make(
     packed: &mut [u32],
     high: &mut [u32],

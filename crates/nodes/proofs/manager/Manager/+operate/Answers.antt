@@ -1,9 +1,8 @@
 -- The proof of the cycle of calls {operate}. Each way out is a law of `proofs/Recursion.antt`. Assumes nothing.
-use mathlib.Core.Path.{◌∙◌, ap, ap₂}
+use mathlib.Core.Path.{◌∙◌, ap₂}
 use Prim.Native.Nat.{ℕ, min}
 use Rattle.nodes.specs.internal.Parts.{memo_in}
 use Rattle.nodes.specs.internal.Lent.{table_of}
-use Rattle.nodes.specs.internal.Operate.{key_of}
 use Rattle.nodes.proofs.Working.{keeps_none, keeps_then}
 use Rattle.nodes.proofs.Stopping.{stopped_operating}
 use Rattle.nodes.proofs.Recursion.{Open, operate_recalled, operate_short_1, operate_short_2, operate_makeable, operate_meant, operate_answers}
@@ -16,13 +15,13 @@ returns-in-Some-recall u c =
     let m = a.self.now in
     record {
       kept = keeps_none;
-      answers = operate_recalled c.requires c.key_of-key.result (c.key_of-key.ensures ∙ ap (λ (n : ℕ). key_of n a.f a.g) c.number.ensures)
+      answers = operate_recalled c.requires c.key-key.result c.key-key.ensures
           (memo_in m.work.now) m.helping.remembered c.in-Some-recall.k c.in-Some-recall.ensures;
     }
 
 -- what is known before the calls on itself
 opened : {u : ℕ} (c : After-cofactors-y u)
-    → Open (table_of c.args.self.now) c.args.op c.args.f c.args.g c.min-level.result c.cofactors-x.result c.cofactors-y.result c.key_of-key.result
+    → Open (table_of c.args.self.now) c.args.op c.args.f c.args.g c.min-level.result c.cofactors-x.result c.cofactors-y.result c.key-key.result
 opened c = let a = c.args in record {
   ok = c.requires;
   settles = c.in_default.ensures;
@@ -31,7 +30,7 @@ opened c = let a = c.args in record {
   high_left = c.cofactors-x.ensures.high;
   low_right = c.cofactors-y.ensures.low;
   high_right = c.cofactors-y.ensures.high;
-  key_is = c.key_of-key.ensures ∙ ap (λ (n : ℕ). key_of n a.f a.g) c.number.ensures;
+  key_is = c.key-key.ensures;
 }
 
 pub returns-in_err-low : goal.returns-in_err-low
