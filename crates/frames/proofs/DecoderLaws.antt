@@ -9,9 +9,6 @@ use Rattle.frames.specs.Bytes.{hex_value, is_hex, all, spelt, bytes_of, max_byte
 use Rattle.frames.specs.Decoder.{too_many, start, digit_of, stray_after, pushed_on, pushed, run, finished}
 use Rattle.frames.specs.declared.bytes.DecodeError.TheVariants.{Stray, Long}
 use Rattle.frames.specs.declared.decoder.Decoder.{Decoder}
-use Rattle.frames.specs.declared.refusal.Refusal.TheVariants.{Spelling, Size}
-use Rattle.frames.specs.declared.summary.Summary.{Summary}
-use Rattle.frames.specs.Summary.{max_bits, refused, taken_of}
 use Rattle.frames.specs.internal.Alone.{last_alone}
 use Rattle.frames.specs.internal.Decoded.{decoded}
 use Rattle.frames.proofs.ByteLaws.{both, hex_value_le, length_bytes, decoded_stray, decoded_long, decoded_bytes}

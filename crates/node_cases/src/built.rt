@@ -1,4 +1,6 @@
 // Functions built by the operations of `nodes`, shown as truth tables over the four lowest levels by look-up.
+ghost use Rattle.nodes.specs.internal.Lent.{entering, leaving};
+ghost use Rattle.nodes.specs.internal.Work.{Keeps};
 
 use nodes::levels::Levels;
 use nodes::lookup::{LookUpError, Point, TableSlices, look_up};
@@ -20,7 +22,9 @@ struct Roots {
 
 // The number at levels 0 to 2 is 5; it is 6; one of both; not 5; one of both and not 5, which is 6; one of both, with level 0 anything; one of
 // both, with level 2 renamed to 3.
-fn build(manager: &mut Manager) -> Result<Roots, Full> {
+fn build(manager: &mut Manager) -> Result<Roots, Full>
+    ensures { Keeps (entering manager.old) (leaving manager.new result) }
+{
     let lowest = Levels {
         first: 0,
         apart: 1,
