@@ -158,7 +158,7 @@ impl<'packed, 'high, 'work> Manager<'packed, 'high, 'work> {
     }
 
     // The entry of the result of an operation on what f and g stand for.
-    pub(crate) fn operate(&mut self, op: Operation, f: u32, g: u32) -> Result<u32, Full>
+    pub fn operate(&mut self, op: Operation, f: u32, g: u32) -> Result<u32, Full>
         requires { Operands (table_of self.old) op f g }
         ensures { Operating (entering self.old) (leaving self.new result) (operation op (den (table_of self.old) f) (den (table_of self.old) g)) result }
     {
