@@ -1,5 +1,5 @@
 -- Laws of digits and bytes, and what decoding answers. Assumes nothing.
-use Rattle.std.proofs.Common.{◌≡◌, ℕ, zero, suc, ◌+◌, ◌-◌, ◌*◌, ◌/◌, ◌<◌, ◌≤◌, Bool, true, false, cond, ◌&&◌, ltb, leb, ◌↔◌, List, [], ◌∷◌, length, get_or, drop, Result, Ok, Err, refl, ap, ◌∙◌, le_refl, not-suc-le-zero, add-one, arith, drop_of_length-le, drop-cons, ltb-true, le-leb, leb-false, leb-true}
+use Rattle.std.proofs.Common.{◌≡◌, ℕ, zero, suc, ◌+◌, ◌-◌, ◌*◌, ◌/◌, ◌%◌, ◌<◌, ◌≤◌, Bool, true, false, cond, ◌&&◌, ltb, leb, ◌↔◌, List, [], ◌∷◌, length, get_or, drop, Result, Ok, Err, refl, ap, ◌∙◌, le_refl, not-suc-le-zero, add-one, arith, drop_of_length-le, drop-cons, ltb-false, ltb-true, le-ltb, le-leb, leb-false, leb-true}
 use mathlib.Core.Bool.{false≢true}
 use borrow.Author.Tests.{lt-leb}
 use Rattle.frames.specs.Bytes.{hex_value, is_hex, all, spelt, bytes_of, max_bytes}
@@ -26,6 +26,25 @@ hex_value_le c =
     (λ _. choice (λ (v : ℕ). v ≤ 16) (leb c 57) (c - 48) _ (λ h. omega (arith, leb-true c 57 h))
     (λ _. choice (λ (v : ℕ). v ≤ 16) (ltb c 65) 16 _ (λ _. le_refl 16)
     (λ _. choice (λ (v : ℕ). v ≤ 16) (leb c 70) (c - 55) 16 (λ h. omega (arith, leb-true c 70 h)) (λ _. le_refl 16))))
+
+-- the value of a digit by what is left of the byte past 48 and past 65, differences that wrap
+module _ (c d : ℕ) (is : (d + 48) % 256 ≡ c) where
+  pub hex_digit : d < 10 → d ≡ hex_value c
+  unfolding hex_value
+  hex_digit h = rw (le-ltb c 48 (omega arith), le-leb c 57 (omega arith)) (omega arith)
+
+  module _ (range : d < 256) (no : 10 ≤ d) (l : ℕ) (past : (l + 65) % 256 ≡ c) where
+    pub hex_letter : l < 6 → l + 10 ≡ hex_value c
+    unfolding hex_value
+    hex_letter h = rw (le-ltb c 48 (omega arith), lt-leb c 57 (omega arith), le-ltb c 65 (omega arith), le-leb c 70 (omega arith)) (omega arith)
+
+    pub hex_none : l < 256 → 6 ≤ l → 16 ≡ hex_value c
+    unfolding hex_value
+    hex_none r h =
+        choice (λ (v : ℕ). 16 ≡ v) (ltb c 48) 16 _ (λ _. refl)
+        (λ p. choice (λ (v : ℕ). 16 ≡ v) (leb c 57) (c - 48) _ (λ q. omega (arith, ltb-false c 48 p, leb-true c 57 q))
+        (λ _. choice (λ (v : ℕ). 16 ≡ v) (ltb c 65) 16 _ (λ _. refl)
+        (λ q. choice (λ (v : ℕ). 16 ≡ v) (leb c 70) (c - 55) 16 (λ k. omega (arith, ltb-false c 65 q, leb-true c 70 k)) (λ _. refl))))
 
 pub length_bytes : (d : List ℕ) → length (bytes_of d) ≡ length d / 2
 unfolding bytes_of
