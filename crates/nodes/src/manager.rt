@@ -25,7 +25,7 @@ impl<'packed, 'high, 'work> Manager<'packed, 'high, 'work> {
     pub fn used(&self) -> u32
         ensures { result ≡ self.now.used }
     {
-        self.used
+        self.used // the constants too
     }
 
     // The nodes of the table: its entries in use but the constants.
