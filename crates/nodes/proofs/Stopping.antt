@@ -20,7 +20,7 @@ use Rattle.nodes.specs.internal.Growth.{Short}
 use Rattle.nodes.specs.internal.Lent.{table_of, store, leaving, entry_of}
 use Rattle.nodes.specs.internal.Several.{some_from, renamed_from}
 use Rattle.nodes.specs.internal.Single.{Guards}
-use Rattle.nodes.specs.internal.Work.{Store, Keeps, stayed, Operating, Gives, Lists, Continues, Maps, Joins, Uses₁, Uses₂, Chooses}
+use Rattle.nodes.specs.internal.Work.{Store, Keeps, stayed, Operating, Gives, Lists, Continues, Maps, Joins, Follows, Uses₁, Uses₂, Chooses}
 use Rattle.nodes.proofs.Singles.{one_less, renamed_more}
 use Rattle.nodes.proofs.Working.{contrary, keeps_none, full_more, does_then}
 
@@ -46,6 +46,10 @@ more_and φ ψ f m = Memᴰ.append_left _ m
 
 pub more_or : More₂ ◌∨'◌
 more_or φ ψ f m = Memᴰ.append_left _ m
+
+more_without : More₂ (λ φ ψ. φ ∧' ¬' ψ)
+more_without φ ψ f m =
+    more_and φ (¬' ψ) f (⊎_elim (Memᴰ.append_left _) (λ k. Memᴰ.append_right (results φ) (more_not ψ f k)) (Memᴰ.append_cases (results φ) m))
 
 -- one after the other
 pub more_then : (C D : Formula → Formula) → More C → More D → More (λ φ. D (C φ))
@@ -133,6 +137,16 @@ module _ {s : Store} (full : s.full ≡ true) where
   pub full_or : {f g : ℕ} → Joins s s ◌∨'◌ f g f
   full_or = full_joins more_or
 
+  full_follows : {K : Formula → Formula → Formula} {f g : ℕ} → More₂ K → Follows s s K f g f
+  full_follows {K} more = record {
+    kept = keeps_none;
+    gives = λ {s₀} {s₁} {φ} {ψ} x y. record { does = full_more full (more φ ψ) (does_then x.does y.does); stands = λ o. contrary full o };
+    nothing = λ _. (refl, refl);
+  }
+
+  pub full_without : {f g : ℕ} → Follows s s (λ φ ψ. φ ∧' ¬' ψ) f g f
+  full_without = full_follows more_without
+
   pub full_guards : {w : ℕ} {h : Fun → Fun} {f i : ℕ} → Guards s s w h f i
   full_guards = record { kept = keeps_none; adds = λ F p q. (stayed full refl, λ o. contrary full o) }
 
@@ -182,6 +196,13 @@ module _ {s : Store} (m : Manager) (r : Result ℕ Full) (e : IsErr r) (open₀ 
   stopped_maps {C} {f} x = at_error (λ u j. Maps s u C f j) m r e (record {
     kept = x.kept;
     gives = λ y. no_entry m (x.gives y);
+    nothing = λ h. changed (x.nothing h).0;
+  })
+
+  pub stopped_follows : {K : Formula → Formula → Formula} {f g i : ℕ} → Follows s (store m true) K f g i → Follows s (leaving m r) K f g (entry_of r)
+  stopped_follows {K} {f} {g} x = at_error (λ u j. Follows s u K f g j) m r e (record {
+    kept = x.kept;
+    gives = λ y z. no_entry m (x.gives y z);
     nothing = λ h. changed (x.nothing h).0;
   })
 

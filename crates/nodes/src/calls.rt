@@ -4,7 +4,7 @@ ghost use Rattle.nodes.specs.internal.Operate.{IsOperation};
 ghost use Rattle.nodes.specs.Table.{last_level};
 ghost use Rattle.nodes.specs.Formula.{◌∧'◌, ◌∨'◌, ¬'◌, fix, some};
 ghost use Rattle.nodes.specs.internal.Lent.{entering, leaving, entry_of};
-ghost use Rattle.nodes.specs.internal.Work.{Applies, Joins, Maps, Chooses};
+ghost use Rattle.nodes.specs.internal.Work.{Applies, Joins, Maps, Follows, Chooses};
 
 use super::apply::Operation;
 use super::manager::{Full, Manager};
@@ -41,6 +41,14 @@ impl<'packed, 'high, 'work> Manager<'packed, 'high, 'work> {
         ensures { Maps (entering self.old) (leaving self.new result) ¬'◌ f (entry_of result) }
     {
         self.apply(Operation::Not, f, 0)
+    }
+
+    // The entry of f without g: f and not g.
+    pub fn without(&mut self, f: u32, g: u32) -> Result<u32, Full>
+        ensures { Follows (entering self.old) (leaving self.new result) (λ φ ψ. φ ∧' ¬' ψ) f g (entry_of result) }
+    {
+        let n = self.not(g)?;
+        self.and(f, n)
     }
 
     // The entry of f with level v fixed to b.

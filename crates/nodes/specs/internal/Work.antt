@@ -113,6 +113,12 @@ pub record Joins (s s' : Store) (C : Formula → Formula → Formula) (f g i : �
   pub turned : {s₀ s₁ : Store} {φ ψ : Formula} → Gives s₀ s₁ ψ g → Gives s₁ s φ f → Gives s₀ s' (C φ ψ) i
   pub nothing : (s.table.used ≤ f) ⊎ (s.table.used ≤ g) → (s' ≡ s) × (i ≡ f)
 
+-- The same of two operands that were worked out in this order. It looks at f last: where g is no entry in use, it does nothing, and answers f.
+pub record Follows (s s' : Store) (C : Formula → Formula → Formula) (f g i : ℕ) : Type 0 where
+  pub kept : Keeps s s'
+  pub gives : {s₀ s₁ : Store} {φ ψ : Formula} → Gives s₀ s₁ φ f → Gives s₁ s ψ g → Gives s₀ s' (C φ ψ) i
+  pub nothing : s.table.used ≤ g → (s' ≡ s) × (i ≡ f)
+
 -- its operands stand for F and G: it works out a formula over them
 pub record Uses₁ (s s' : Store) (C : Fun → Formula) (f i : ℕ) : Type 0 where
   pub kept : Keeps s s'
