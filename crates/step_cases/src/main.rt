@@ -73,14 +73,18 @@ fn print_steps(rt: &impl Print, shown: Shown, n: u64) -> io::Result<()> {
     Ok(())
 }
 
+// A table has so many entries at most.
+const LENGTH: usize = 16384;
+
 // A model of so many codes.
+// Kept: a struct over any length N would need the computed const argument 4N, and over `LENGTH` it would only be taken apart for `compare`.
 fn show(rt: &impl Print, name: &[u8], text: &[u8], n: u64) -> io::Result<()> {
     rt.write_all(name)?;
     println!(rt)?;
-    let mut level = [0u8; 16384];
-    let mut low = [0u32; 16384];
-    let mut high = [0u32; 16384];
-    let mut work = [0u32; 65536];
+    let mut level = [0u8; LENGTH];
+    let mut low = [0u32; LENGTH];
+    let mut high = [0u32; LENGTH];
+    let mut work = [0u32; 4 * LENGTH];
     let answer = compare(text, text, 1000, &mut level, &mut low, &mut high, &mut work);
     if let Ok(a) = answer {
         if let Verdict::Equal { iterate, .. } = a.strong {
