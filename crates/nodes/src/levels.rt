@@ -27,13 +27,8 @@ impl Levels {
 }
 
 // Binary digit k of n.
-#[tactic(auto, using(crate::proofs::Bits::bit_step, crate::proofs::Bits::bit_end))]
 pub(crate) fn digit_at(n: u64, k: u8) -> bool
     ensures { result ≡ bit n k }
 {
-    let mut m = n;
-    for _ in 0..k {
-        m /= 2;
-    }
-    m % 2 == 1
+    n.checked_shr(k as u32).unwrap_or(0) % 2 == 1
 }
