@@ -1,5 +1,5 @@
 // ∧, ∨, ¬ and fixing a level by one recursion over the entries of the operands.
-ghost use Rattle.std.specs.Prelude.{◌≡◌, false, true, cond, ◌≤◌, ◌<◌};
+ghost use Rattle.std.specs.Prelude.{◌≡◌, false, true, ◌≤◌, ◌<◌};
 ghost use Rattle.nodes.specs.Fun.{negated};
 ghost use Rattle.nodes.specs.internal.Operate.{operation, number_of, turns_of, key_of, IsOperation, Operands, junction, SettlesBy, Settles, Cofactor, Meant};
 ghost use Rattle.nodes.specs.Table.{last_level, level_of, den};
@@ -40,12 +40,14 @@ impl Operation {
         requires { IsOperation self }
         ensures { result ≡ key_of (number_of self) f g }
     {
-        let number = self.number();
-        let turned = number < 2 && g < f;
+        let (left, right) = match self {
+            Operation::And | Operation::Or => (f.min(g), f.max(g)),
+            Operation::Not | Operation::Fix(_, _) => (f, g),
+        };
         Key {
-            number,
-            left: pick(turned, g, f),
-            right: pick(turned, f, g),
+            number: self.number(),
+            left,
+            right,
         }
     }
 }
@@ -177,11 +179,4 @@ impl<'packed, 'high, 'work> Manager<'packed, 'high, 'work> {
         let high = self.operate(op, x.high, y.high)?;
         self.finish(Node { level, low, high }, s, key)
     }
-}
-
-// x where b is true, and else y.
-pub(crate) fn pick(b: bool, x: u32, y: u32) -> u32
-    ensures { result ≡ cond b x y }
-{
-    if b { x } else { y }
 }

@@ -7,7 +7,6 @@ ghost use Rattle.nodes.specs.internal.Spaced.{Spaced};
 ghost use Rattle.nodes.specs.internal.Lent.{entering, leaving, entry_of};
 ghost use Rattle.nodes.specs.internal.Work.{Lists};
 
-use super::apply::pick;
 use super::levels::Levels;
 use super::manager::{Full, Manager};
 
@@ -17,7 +16,11 @@ impl<'packed, 'high, 'work> Manager<'packed, 'high, 'work> {
         requires { v ≤ last_level }
         ensures { Guards (entering self.old) (leaving self.new result) (v + 1) (guarded v b) f (entry_of result) }
     {
-        self.node(v, pick(b, 0, f), pick(b, f, 0))
+        if b {
+            self.node(v, 0, f)
+        } else {
+            self.node(v, f, 0)
+        }
     }
 
     // f where levels v and w, v the lower one, are equal, and false elsewhere.

@@ -1,12 +1,12 @@
 -- An index of the nodes of a table, by which a node is found from its level and its children: chains in two lists of any length.
 -- `head` has a place for each hash, and `next` for each entry up to its length; entries past it are in no chain. Assumes nothing.
-use Rattle.std.specs.Prelude.{◌≡◌, cond, List, ℕ, ◌+◌, ◌*◌, ◌%◌, ◌≤◌, ◌<◌, eqb, ltb, length, get_or, set}
+use Rattle.std.specs.Prelude.{◌≡◌, cond, List, ℕ, ◌+◌, ◌*◌, ◌%◌, ◌≤◌, ◌<◌, eqb, min, max, length, get_or, set}
 use Rattle.nodes.specs.Table.{Table, level_of, low_of, high_of}
 use Rattle.nodes.specs.internal.Parts.{hashes, heads_at, memory_at, links_in, heads_in, memo_in}
 
 -- a number below n, for n above 0, that depends on v, lo and hi
 unfoldable pub hash_of : ℕ → ℕ → ℕ → ℕ → ℕ
-hash_of v lo hi n = (7 * v + 2 * cond (ltb lo hi) hi lo + cond (ltb lo hi) lo hi % 1024) % n
+hash_of v lo hi n = (7 * v + 2 * max lo hi + min lo hi % 1024) % n
 
 -- how many entries the index covers
 abbrev pub coverage : List ℕ → List ℕ → ℕ
