@@ -9,7 +9,7 @@ use Prim.Native.Nat.{ℕ, ◌+◌, ◌*◌, ◌/◌, ◌%◌, ◌<◌, ◌≤◌
 use native.Mathlib.Omega.{arith}
 use lib.ListN.{length, get_or, set}
 use Rattle.std.specs.Prelude.{Option, Some, None, Ok}
-use Rattle.nodes.specs.declared.computed.Key.{Key}
+use Rattle.nodes.specs.declared.computed.Slot.{Slot}
 use Rattle.nodes.specs.Table.{Table, table, max_length}
 use Rattle.nodes.specs.internal.Packed.{packing, levels, packed_table}
 use Rattle.nodes.specs.internal.Parts.{covers, hashes, heads_at, memory_at, links_in, heads_in, memo_in}
@@ -197,12 +197,12 @@ module _ (work : List ℕ) (m : ℕ) (begins : m ≡ memory_at work) (o f g r s 
       ∙ links_set_memo w₁ m m₁ (slot + 1) (4 * s + 1) f (omega arith)
       ∙ links_set_memo work m (sym begins) slot (4 * s) (o + 1) refl
 
-  pub work_keeps : Remembers work (record { number = o; left = f; right = g }) r (set (set (set (set work slot (o + 1)) (slot + 1) f) (slot + 2) g) (slot + 3) r)
+  pub work_keeps : Remembers work (record { number = o; first = f; second = g; third = r }) (set (set (set (set work slot (o + 1)) (slot + 1) f) (slot + 2) g) (slot + 3) r)
   unfolding w₁ w₂ w₃
   work_keeps = record { stores = inr (s, fits, memo_after); heads = heads_after; links = links_after }
 
-pub work_kept : (work : List ℕ) (k : Key) (r : ℕ) → Remembers work k r work
-work_kept work k r = record { stores = inl refl; heads = refl; links = refl }
+pub work_kept : (work : List ℕ) (x : Slot) → Remembers work x work
+work_kept work x = record { stores = inl refl; heads = refl; links = refl }
 
 -- ---- a node that is made
 

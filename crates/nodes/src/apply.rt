@@ -7,7 +7,7 @@ ghost use Rattle.nodes.specs.internal.Make.{Makeable, node_fun};
 ghost use Rattle.nodes.specs.internal.Lent.{table_of, entering, leaving};
 ghost use Rattle.nodes.specs.internal.Work.{Operating};
 
-use super::computed::{Key, remember};
+use super::computed::{Key, Slot, remember};
 use super::limits::MAX_LENGTH;
 use super::manager::{Full, Manager};
 use super::unique::Node;
@@ -53,7 +53,7 @@ impl Operation {
 }
 
 // ∧, which false decides, or ∨, which true decides. The other constant leaves the other operand.
-// Kept: five tests. With those joined by || that give one answer, a load of ∧, ∨, ∃ and fixing took 0.6 percent more instructions and 5 percent more time.
+// Five tests: with those joined by || that give one answer, a load of ∧, ∨, ∃ and fixing took 5 percent more time (DECISIONS 30).
 fn settle_junction(f: u32, g: u32, decisive: bool) -> Option<u32>
     ensures { SettlesBy (junction decisive) f g result }
 {
@@ -155,7 +155,13 @@ impl<'packed, 'high, 'work> Manager<'packed, 'high, 'work> {
         ensures { Operating (entering self.old) (leaving self.new result) (node_fun (table_of self.old) node.level node.low node.high) result }
     {
         let i = self.make(node)?;
-        remember(self.work, s, key, i);
+        let slot = Slot {
+            number: key.number,
+            first: key.left,
+            second: key.right,
+            third: i,
+        };
+        remember(self.work, s, slot);
         Ok(i)
     }
 
@@ -168,7 +174,7 @@ impl<'packed, 'high, 'work> Manager<'packed, 'high, 'work> {
             return Ok(k);
         }
         let key = op.key(f, g);
-        let s = self.slot_for(key);
+        let s = self.slot_for(key.number, key.left, key.right);
         if let Some(k) = self.recall(s, key) {
             return Ok(k);
         }

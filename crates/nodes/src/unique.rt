@@ -152,6 +152,13 @@ impl<'packed, 'high, 'work> Manager<'packed, 'high, 'work> {
         if let Some(i) = self.find(head, node) {
             return Ok(i);
         }
-        add(self.packed, self.high, self.work, &mut self.used, head, node)
+        add(
+            self.packed,
+            self.high,
+            self.work,
+            &mut self.used,
+            head,
+            node,
+        )
     }
 }

@@ -1,4 +1,5 @@
 // The work slice: a hash, and the parts behind its first word, which holds the table's length.
+// Kept: functions of the lent slice: a struct of it, `struct Work<'a> { words: &'a mut [u32] }`, would hold nothing else and only put `self.words` for `work`.
 ghost use Rattle.std.specs.Prelude.{◌≡◌, cond, ◌-◌, ◌%◌, ◌<◌, ltb};
 ghost use Rattle.nodes.specs.internal.Parts.{parted, covers, hashes, memory_at, links_in, heads_in};
 ghost use Rattle.nodes.specs.internal.Operate.{slots_in};
