@@ -83,6 +83,7 @@ fn show_all(rt: &impl Print, r: Roots, table: TableSlices) -> io::Result<()> {
     show(rt, b"rename", r.renamed, table)
 }
 
+// Kept: four arrays: a struct of them, used here alone, needs two lengths, `Slices<64, 256>`, since a length is not computed (`[u32; 4 * N]`).
 pub fn built(rt: &impl Print) -> io::Result<()> {
     let mut level = [0u8; 64];
     let mut low = [0u32; 64];

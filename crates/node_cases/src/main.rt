@@ -70,8 +70,7 @@ fn two(
 }
 
 // A look-up from entry 1 in slices of some lengths.
-fn sized(rt: &impl Print, name: &[u8], level: &[u8], low: &[u32], high: &[u32]) -> io::Result<()> {
-    let table = TableSlices { level, low, high };
+fn sized(rt: &impl Print, name: &[u8], table: TableSlices) -> io::Result<()> {
     tell(rt, name, look_up(table, 1, at(0, 0, 0, 0, 0)))
 }
 
@@ -237,30 +236,45 @@ fn disorder(rt: &impl Print) -> io::Result<()> {
 }
 
 fn equal_sizes(rt: &impl Print) -> io::Result<()> {
-    let level = [255u8, 255];
-    let low = [0u32, 1];
-    let high = [0u32, 1];
-    sized(rt, b"lengths 2, 2, 2", &level, &low, &high)?;
-    let level1 = [255u8];
-    let low1 = [0u32];
-    let high1 = [0u32];
-    sized(rt, b"lengths 1, 1, 1", &level1, &low1, &high1)?;
-    let level0 = [0u8; 0];
-    let low0 = [0u32; 0];
-    let high0 = [0u32; 0];
-    sized(rt, b"lengths 0, 0, 0", &level0, &low0, &high0)
+    let two = TableSlices {
+        level: &[255, 255],
+        low: &[0, 1],
+        high: &[0, 1],
+    };
+    sized(rt, b"lengths 2, 2, 2", two)?;
+    let one = TableSlices {
+        level: &[255],
+        low: &[0],
+        high: &[0],
+    };
+    sized(rt, b"lengths 1, 1, 1", one)?;
+    let none = TableSlices {
+        level: &[],
+        low: &[],
+        high: &[],
+    };
+    sized(rt, b"lengths 0, 0, 0", none)
 }
 
 fn unequal_sizes(rt: &impl Print) -> io::Result<()> {
-    let two = [255u8, 255];
-    let three = [255u8, 255, 255];
-    let low2 = [0u32, 1];
-    let low3 = [0u32, 1, 0];
-    let high3 = [0u32, 1, 0];
-    let high4 = [0u32, 1, 0, 0];
-    sized(rt, b"lengths 3, 2, 3", &three, &low2, &high3)?;
-    sized(rt, b"lengths 3, 3, 4", &three, &low3, &high4)?;
-    sized(rt, b"lengths 2, 3, 3", &two, &low3, &high3)
+    let short_low = TableSlices {
+        level: &[255, 255, 255],
+        low: &[0, 1],
+        high: &[0, 1, 0],
+    };
+    sized(rt, b"lengths 3, 2, 3", short_low)?;
+    let long_high = TableSlices {
+        level: &[255, 255, 255],
+        low: &[0, 1, 0],
+        high: &[0, 1, 0, 0],
+    };
+    sized(rt, b"lengths 3, 3, 4", long_high)?;
+    let short_level = TableSlices {
+        level: &[255, 255],
+        low: &[0, 1, 0],
+        high: &[0, 1, 0],
+    };
+    sized(rt, b"lengths 2, 3, 3", short_level)
 }
 
 fn main(rt: HostRuntime) -> io::Result<()> {

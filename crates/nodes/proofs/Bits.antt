@@ -1,23 +1,30 @@
 -- Binary digits, and the bit of a look-up at a level. Assumes nothing.
-use mathlib.Core.Path.{◌≡◌, refl}
+use mathlib.Core.Path.{◌≡◌, refl, sym, ap, ◌∙◌}
 use mathlib.Core.Logic.{◌≢◌}
 use mathlib.Core.Bool.{false}
-use Prim.Native.Nat.{ℕ, zero, suc, ◌/◌, ◌%◌, ◌-◌, ◌≤◌, ◌<◌}
-use native.Mathlib.Nat.{not-suc-le-zero}
+use Prim.Native.Nat.{ℕ, zero, suc, ◌/◌, ◌%◌, ◌-◌, ◌^◌, ◌≤◌, ◌<◌}
 use native.Mathlib.Decide.{ℕ_discrete}
 use native.Mathlib.Omega.{arith}
 use borrow.Author.Tests.{le-ltb}
 use lib.Dec.{eqb}
+use Rattle.std.proofs.lemmas.Nat.Bits.{bit_at-suc, bit_at_lowest, bit_at_above}
+use Rattle.std.specs.Int.{bit_at}
+use Rattle.std.specs.Option.{unwrap_or}
+use Rattle.std.specs.Prelude.{Option, Some, None, SomeIff}
 use Rattle.nodes.specs.Formula.{bit}
 use Rattle.nodes.specs.Lookup.{slot_code, looked_up}
 
-pub bit_step : (m i : ℕ) → 0 < i → bit m i ≡ bit (m / 2) (i - 1)
-bit_step m zero h = absurd (not-suc-le-zero h)
-bit_step m (suc i) h = let e : suc i - 1 ≡ i = omega arith in rw e refl
+bit_is_bit_at : (n k : ℕ) → eqb (bit_at n k) 1 ≡ bit n k
+bit_is_bit_at n zero = rw (bit_at_lowest n) refl
+bit_is_bit_at n (suc k) = rw (bit_at-suc n k) (bit_is_bit_at (n / 2) k)
 
-pub bit_end : (m i : ℕ) → i ≤ 0 → bit m i ≡ eqb (m % 2) 1
-bit_end m zero h = refl
-bit_end m (suc i) h = absurd (not-suc-le-zero h)
+bit_above : (n k : ℕ) → n < 2 ^ 64 → 64 ≤ k → bit n k ≡ false
+bit_above n k h g = sym (bit_is_bit_at n k) ∙ ap (λ x. eqb x 1) (bit_at_above n 64 k h g)
+
+-- what `checked_shr` leaves has the digit at its end
+pub shifted_digit : (n k : ℕ) (r : Option ℕ) → n < 2 ^ 64 → SomeIff r (k < 64) (n / 2 ^ k) → eqb (unwrap_or r 0 % 2) 1 ≡ bit n k
+shifted_digit n k (Some m) h e = ap (λ x. eqb (x % 2) 1) e.1 ∙ bit_is_bit_at n k
+shifted_digit n k None h e = sym (bit_above n k h (omega (arith, e)))
 
 bit_none : (k : ℕ) → bit 0 k ≡ false
 bit_none zero = refl

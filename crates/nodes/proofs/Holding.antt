@@ -8,14 +8,13 @@ use mathlib.Core.List.{List}
 use Prim.Native.Nat.{ℕ, ◌+◌, ◌*◌, ◌/◌, ◌%◌, ◌<◌, ◌≤◌}
 use native.Mathlib.Omega.{arith}
 use lib.ListN.{length, get_or, set}
-use Rattle.std.specs.Prelude.{None, Ok}
-use Rattle.nodes.specs.declared.unique.MadeNode.TheVariants.{New}
-use Rattle.nodes.specs.declared.computed.Key.{Key}
+use Rattle.std.specs.Prelude.{Option, Some, None, Ok}
+use Rattle.nodes.specs.declared.computed.Slot.{Slot}
 use Rattle.nodes.specs.Table.{Table, table, max_length}
 use Rattle.nodes.specs.internal.Packed.{packing, levels, packed_table}
 use Rattle.nodes.specs.internal.Parts.{covers, hashes, heads_at, memory_at, links_in, heads_in, memo_in}
 use Rattle.nodes.specs.internal.Index.{hash_of, coverage, Indexing, Linked, Linking, InIndex, Begins}
-use Rattle.nodes.specs.internal.Make.{Makeable, IsNode, Finds, node_fun, MadeNew, held, MakesNode, Lacking}
+use Rattle.nodes.specs.internal.Make.{Makeable, IsNode, Finds, node_fun, MadeAt, held, Makes, Lacking}
 use Rattle.nodes.specs.internal.Operate.{slots_in, Holds, Remembers}
 use Rattle.nodes.proofs.Parting.{index_fits, packed_level, packed_low, packed_again, levels_length, level_at, low_at, levels_set, lows_set, links_length, heads_length, memo_length, link_at, head_at, memo_at, same_covers, same_hashes, same_memory, links_set_link, heads_set_link, memo_set_link, links_set_head, heads_set_head, memo_set_head, links_set_memo, heads_set_memo, memo_set_memo}
 use Rattle.nodes.proofs.Indexing.{coverage_none, coverage_some, coverage_le, Chained, chained_start, chained_next, chain_falls, chain_within, linked_none, linked_at}
@@ -46,20 +45,20 @@ module _ (work : List ℕ) where
   pub work_coverage : (hashes work ≡ 0 → ⊥) → coverage (heads_in work) (links_in work) ≡ covers work
   work_coverage n = coverage_some (heads_in work) (links_in work) (λ e. n (sym (heads_length work) ∙ e)) ∙ links_length work
 
-pub head_inside : (work : List ℕ) (head : ℕ) → InIndex work head → (head ≡ 0 → ⊥) → head < length work
-head_inside work head x some = let t = x.to (omega arith) in let f = index_fits work in omega arith
+pub begins_inside : (work : List ℕ) (v lo hi : ℕ) (head : Option ℕ) → Begins work v lo hi head → InIndex work head
+begins_inside work v lo hi (Some head) b = (omega (arith, b.1), omega (arith, b.0, b.1))
+begins_inside work v lo hi None b = b
 
--- the hash of a node whose chain begins at a head is that of a head
-hash_below : (work : List ℕ) (v lo hi head : ℕ) → 0 < head → Begins work v lo hi head → hash_of v lo hi (hashes work) < hashes work
-hash_below work v lo hi head some b = let e = b.place some in let l = b.in_index.to some in omega arith
+pub head_inside : (work : List ℕ) (head : ℕ) → InIndex work (Some head) → head < length work
+head_inside work head x = let f = index_fits work in omega (arith, x.1)
 
 module _ (t : Table) (work : List ℕ) (v lo hi : ℕ) (ok : Indexing t work) where
-  pub work_start : (head : ℕ) → 0 < head → Begins work v lo hi head → Chained t (heads_in work) (links_in work) v lo hi (get_or work head 0)
-  work_start head some b =
+  pub work_start : (head : ℕ) → Begins work v lo hi (Some head) → Chained t (heads_in work) (links_in work) v lo hi (get_or work head 0)
+  work_start head b =
       let n = heads_length work in
       let h = hash_of v lo hi (hashes work) in
-      let below = hash_below work v lo hi head some b in
-      subst (Chained t (heads_in work) (links_in work) v lo hi) (head_at work h below ∙ ap (λ (i : ℕ). get_or work i 0) (sym (b.place some)))
+      let below = b.0 in
+      subst (Chained t (heads_in work) (links_in work) v lo hi) (head_at work h below ∙ ap (λ (i : ℕ). get_or work i 0) (sym b.1))
       (chained_start t (heads_in work) (links_in work) v lo hi ok h (ap (hash_of v lo hi) (sym n)) (subst (λ (m : ℕ). h < m) (sym n) below))
 
   module _ (i : ℕ) (two : 2 ≤ i) (c : Chained t (heads_in work) (links_in work) v lo hi i) where
@@ -131,11 +130,11 @@ module _ (work : List ℕ) (used v lo hi : ℕ) where
           memo_is,
         )
 
-  pub work_linked : (head : ℕ) → 0 < head → used < covers work → Begins work v lo hi head
+  pub work_linked : (head : ℕ) → used < covers work → Begins work v lo hi (Some head)
       → Linking work used v lo hi (set (set work (1 + used) (get_or work head 0)) head used)
-  work_linked head some inside b =
-      subst (λ (i : ℕ). Linking work used v lo hi (set (set work (1 + used) (get_or work i 0)) i used)) (sym (b.place some))
-      (linked _ inside refl (hash_below work v lo hi head some b))
+  work_linked head inside b =
+      subst (λ (i : ℕ). Linking work used v lo hi (set (set work (1 + used) (get_or work i 0)) i used)) (sym b.1)
+      (linked _ inside refl b.0)
 
 -- ---- the memory of results
 
@@ -198,12 +197,12 @@ module _ (work : List ℕ) (m : ℕ) (begins : m ≡ memory_at work) (o f g r s 
       ∙ links_set_memo w₁ m m₁ (slot + 1) (4 * s + 1) f (omega arith)
       ∙ links_set_memo work m (sym begins) slot (4 * s) (o + 1) refl
 
-  pub work_keeps : Remembers work (record { number = o; left = f; right = g }) r (set (set (set (set work slot (o + 1)) (slot + 1) f) (slot + 2) g) (slot + 3) r)
+  pub work_keeps : Remembers work (record { number = o; first = f; second = g; third = r }) (set (set (set (set work slot (o + 1)) (slot + 1) f) (slot + 2) g) (slot + 3) r)
   unfolding w₁ w₂ w₃
   work_keeps = record { stores = inr (s, fits, memo_after); heads = heads_after; links = links_after }
 
-pub work_kept : (work : List ℕ) (k : Key) (r : ℕ) → Remembers work k r work
-work_kept work k r = record { stores = inl refl; heads = refl; links = refl }
+pub work_kept : (work : List ℕ) (x : Slot) → Remembers work x work
+work_kept work x = record { stores = inl refl; heads = refl; links = refl }
 
 -- ---- a node that is made
 
@@ -216,12 +215,12 @@ module _ (packed high work : List ℕ) (used v lo hi : ℕ) (ok : Makeable (pack
 
   module _ (differ : lo ≡ hi → ⊥) (none : Finds here v lo hi None) where
     pub packed_new : (work' : List ℕ) → used < length packed → Indexing here work → Linking work used v lo hi work'
-        → MakesNode (held packed high work used) (set packed used (packing v lo)) (set high used hi) work' (node_fun here v lo hi) (Ok (New used))
+        → Makes (held packed high work used) (held (set packed used (packing v lo)) (set high used hi) work' (used + 1)) (node_fun here v lo hi) (Ok used)
     packed_new work' room index link =
         let inside : used < length (levels packed) = subst (λ (n : ℕ). used < n) (sym (levels_length packed)) room in
-        let made = subst₂ (λ (level low : List ℕ). let t = table level low (set high used hi) (used + 1) in MadeNew here t (node_fun here v lo hi) used × Indexing t work')
+        let made = subst₂ (λ (level low : List ℕ). let t = table level low (set high used hi) (used + 1) in MadeAt here t (node_fun here v lo hi) used × Indexing t work')
         (sym (levels_set packed used v lo child_small)) (sym (lows_set packed used v lo child_small)) (
-          record { absent = absent here v lo hi ok differ none; made = made_new here v lo hi ok differ none inside },
+          made_new here v lo hi ok differ none inside,
           made_linked here v lo hi ok differ none inside (heads_in work) (links_in work) (heads_in work') (links_in work') index link.0,
         ) in
         (made.0, record { indexing = made.1; memo = link.1 })

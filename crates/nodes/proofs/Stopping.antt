@@ -18,7 +18,6 @@ use Rattle.nodes.specs.declared.manager.Full.{Full}
 use Rattle.nodes.specs.declared.manager.Manager.{Manager}
 use Rattle.nodes.specs.internal.Growth.{Short}
 use Rattle.nodes.specs.internal.Lent.{table_of, store, leaving, entry_of}
-use Rattle.nodes.specs.internal.Several.{some_from, renamed_from}
 use Rattle.nodes.specs.internal.Single.{Guards}
 use Rattle.nodes.specs.internal.Work.{Store, Keeps, stayed, Operating, Gives, Lists, Continues, Maps, Joins, Follows, Uses₁, Uses₂, Chooses}
 use Rattle.nodes.proofs.Singles.{one_less, renamed_more}
@@ -64,14 +63,6 @@ more_second K φ k ψ f m = k φ ψ f (Memᴰ.append_right (results φ) m)
 
 pub more_renamed : (v w : ℕ) → More (renamed v w)
 more_renamed v w φ = renamed_more v w φ
-
-pub more_some_from : (v k n : ℕ) → More (some_from v k n)
-more_some_from v k zero φ f m = m
-more_some_from v k (suc n) φ f m = more_some v (some_from (v + k) k n φ) f (more_some_from (v + k) k n φ f m)
-
-pub more_renamed_from : (v w k n : ℕ) → More (renamed_from v w k n)
-more_renamed_from v w k zero φ f m = m
-more_renamed_from v w k (suc n) φ f m = more_renamed v w (renamed_from (v + k) (w + k) k n φ) f (more_renamed_from (v + k) (w + k) k n φ f m)
 
 pub more_fix_below : (n c : ℕ) → More (fix_below n c)
 more_fix_below zero c φ f m = m

@@ -1,5 +1,6 @@
 // The levels at which a number's digits stand.
-ghost use Rattle.std.specs.Prelude.{◌≡◌, ◌+◌, ◌-◌, ◌<◌};
+ghost use Rattle.std.specs.Prelude.{◌≡◌, ◌+◌, ◌-◌, ◌*◌, ◌≤◌, ◌<◌};
+ghost use Rattle.nodes.specs.Table.{last_level};
 ghost use Rattle.nodes.specs.Formula.{bit};
 ghost use Rattle.nodes.specs.internal.Spaced.{Spaced};
 
@@ -13,6 +14,14 @@ pub struct Levels {
 }
 
 impl Levels {
+    // The one that digit k stands at.
+    pub(crate) fn at(self, k: u8) -> u8
+        requires { k < self.count }
+        ensures { (result ≡ self.first + k * self.apart) × (result ≤ last_level) }
+    {
+        self.first + k * self.apart
+    }
+
     // Those behind the first.
     pub(crate) fn rest(self) -> Levels
         requires { 0 < self.count }
@@ -27,13 +36,8 @@ impl Levels {
 }
 
 // Binary digit k of n.
-#[tactic(auto, using(crate::proofs::Bits::bit_step, crate::proofs::Bits::bit_end))]
 pub(crate) fn digit_at(n: u64, k: u8) -> bool
     ensures { result ≡ bit n k }
 {
-    let mut m = n;
-    for _ in 0..k {
-        m /= 2;
-    }
-    m % 2 == 1
+    n.checked_shr(k as u32).unwrap_or(0) % 2 == 1
 }

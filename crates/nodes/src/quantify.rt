@@ -1,4 +1,5 @@
 // ∃ of a level by one recursion, which works out its three functions at a time.
+// Kept: `recall`, `settle`, `finish` and `operate` for three answers: one form, `fn work_out<A: Asked>(&mut self, a: A) -> Result<A::Answer, Full>`, needs a trait of keys and steps with laws, and each body again in its impls.
 ghost use Rattle.std.specs.Prelude.{◌≡◌, ◌≤◌, ◌<◌};
 ghost use Rattle.nodes.specs.internal.Parts.{memo_in};
 ghost use Rattle.nodes.specs.internal.Operate.{last_number, quantifying};
@@ -7,11 +8,10 @@ ghost use Rattle.nodes.specs.internal.Lent.{table_of, entering, leaving};
 ghost use Rattle.nodes.specs.internal.Quantify.{Quantifiable, MakeableThree, MeantThree, node_funs, results_of, RecalledThree, Trebling};
 
 use super::apply::Operation;
-use super::computed::{Key, remember};
+use super::computed::{Slot, remember};
 use super::limits::{CONSTANT_LEVEL, LAST_LEVEL};
 use super::manager::{Full, Manager};
 use super::unique::Node;
-use super::work::{memory_at, slots};
 
 // The entries of a function with a level fixed to 0, fixed to 1, and of the ∨ of the two.
 #[derive(Clone, Copy)]
@@ -37,20 +37,16 @@ fn number_of(v: u8, f: u32) -> u32
 
 impl<'packed, 'high, 'work> Manager<'packed, 'high, 'work> {
     // The results of ∃v f, where slot s of the memory has them.
-    #[tactic(auto, using(crate::proofs::Holding::work_holds))]
     fn recall_three(&self, s: usize, v: u8, f: u32) -> Option<Trio>
         requires { (v ≤ last_level) × (f < max_length) }
         ensures { RecalledThree (memo_in self.now.work.now) (quantifying v f) result }
     {
-        if slots(self.work) <= s {
-            return None;
-        }
-        let at = memory_at(self.work) + 4 * s;
-        if self.work[at] == number_of(v, f) + 1 {
+        let held = self.held_in(s)?;
+        if held.number == number_of(v, f) {
             return Some(Trio {
-                zero: self.work[at + 1],
-                one: self.work[at + 2],
-                any: self.work[at + 3],
+                zero: held.first,
+                one: held.second,
+                any: held.third,
             });
         }
         None
@@ -101,12 +97,13 @@ impl<'packed, 'high, 'work> Manager<'packed, 'high, 'work> {
         ensures { Trebling (entering self.old) (leaving self.new result) (node_funs (table_of self.old) level a b) result }
     {
         let r = self.make_three(level, a, b)?;
-        let key = Key {
+        let slot = Slot {
             number: number_of(v, f),
-            left: r.zero,
-            right: r.one,
+            first: r.zero,
+            second: r.one,
+            third: r.any,
         };
-        remember(self.work, s, key, r.any);
+        remember(self.work, s, slot);
         Ok(r)
     }
 
@@ -141,12 +138,7 @@ impl<'packed, 'high, 'work> Manager<'packed, 'high, 'work> {
         if v <= l {
             return self.settle_three(v, f, l);
         }
-        let key = Key {
-            number: v as u32,
-            left: f,
-            right: 0,
-        };
-        let s = self.slot_for(key);
+        let s = self.slot_for(v as u32, f, 0);
         if let Some(r) = self.recall_three(s, v, f) {
             return Ok(r);
         }

@@ -27,11 +27,11 @@ impl<'packed, 'high, 'work> Manager<'packed, 'high, 'work> {
     pub fn exists_from(&mut self, f: u32, levels: Levels) -> Result<u32, Full>
         ensures { Maps (entering self.old) (leaving self.new result) (some_from levels.first levels.apart levels.count) f (entry_of result) }
     {
-        if levels.count == 0 {
-            return Ok(f);
+        let mut g = f;
+        for k in (0..levels.count).rev() {
+            g = self.exists(g, levels.at(k))?;
         }
-        let m = self.exists_from(f, levels.rest())?;
-        self.exists(m, levels.first)
+        Ok(g)
     }
 
     // The levels renamed to others, as many and as far apart, highest first.
@@ -39,11 +39,11 @@ impl<'packed, 'high, 'work> Manager<'packed, 'high, 'work> {
         requires { Alike from to }
         ensures { Maps (entering self.old) (leaving self.new result) (renamed_from from.first to.first from.apart from.count) f (entry_of result) }
     {
-        if from.count == 0 {
-            return Ok(f);
+        let mut g = f;
+        for k in (0..from.count).rev() {
+            g = self.rename(g, from.at(k), to.at(k))?;
         }
-        let m = self.rename_from(f, from.rest(), to.rest())?;
-        self.rename(m, from.first, to.first)
+        Ok(g)
     }
 
     // The levels below n fixed to the digits of c, upward.

@@ -7,7 +7,6 @@ ghost use Rattle.nodes.specs.internal.Spaced.{Spaced};
 ghost use Rattle.nodes.specs.internal.Lent.{entering, leaving, entry_of};
 ghost use Rattle.nodes.specs.internal.Work.{Lists};
 
-use super::apply::pick;
 use super::levels::Levels;
 use super::manager::{Full, Manager};
 
@@ -17,7 +16,11 @@ impl<'packed, 'high, 'work> Manager<'packed, 'high, 'work> {
         requires { v ≤ last_level }
         ensures { Guards (entering self.old) (leaving self.new result) (v + 1) (guarded v b) f (entry_of result) }
     {
-        self.node(v, pick(b, 0, f), pick(b, f, 0))
+        if b {
+            self.node(v, 0, f)
+        } else {
+            self.node(v, f, 0)
+        }
     }
 
     // f where levels v and w, v the lower one, are equal, and false elsewhere.
@@ -31,6 +34,7 @@ impl<'packed, 'high, 'work> Manager<'packed, 'high, 'work> {
     }
 
     // The number whose digits stand at the levels is `code`.
+    // Kept: the loop is no plainer: `let mut m = (code >> levels.count == 0) as u32; for k in (0..levels.count).rev() { m = self.guard(levels.at(k), digit_at(code as u64, k), m)?; } Ok(m)`.
     pub fn number_is(&mut self, code: u32, levels: Levels) -> Result<u32, Full>
         ensures { Lists (entering self.old) (leaving self.new result) (number_is levels.first levels.apart levels.count code) (entry_of result) }
     {
@@ -42,6 +46,7 @@ impl<'packed, 'high, 'work> Manager<'packed, 'high, 'work> {
     }
 
     // It is below n.
+    // Kept: no loop does it: there are two calls, on the halves of n rounded up and down.
     pub fn number_below(&mut self, n: u32, levels: Levels) -> Result<u32, Full>
         ensures { Lists (entering self.old) (leaving self.new result) (number_below levels.first levels.apart levels.count n) (entry_of result) }
     {
@@ -58,12 +63,12 @@ impl<'packed, 'high, 'work> Manager<'packed, 'high, 'work> {
         requires { Spaced levels.first levels.apart levels.count 2 }
         ensures { Lists (entering self.old) (leaving self.new result) (numbers_same levels.first levels.apart levels.count) (entry_of result) }
     {
-        if levels.count == 0 {
-            return Ok(1);
+        let mut m = 1;
+        for k in (0..levels.count).rev() {
+            let v = levels.at(k);
+            m = self.pair(v, v + 1, m)?;
         }
-        let m = self.numbers_same(levels.rest())?;
-        let v = levels.first;
-        self.pair(v, v + 1, m)
+        Ok(m)
     }
 
     // Level v = level w.

@@ -1,16 +1,15 @@
 // The work slice: a hash, and the parts behind its first word, which holds the table's length.
+// Kept: functions of the lent slice: a struct of it, `struct Work<'a> { words: &'a mut [u32] }`, would hold nothing else and only put `self.words` for `work`.
 ghost use Rattle.std.specs.Prelude.{◌≡◌, cond, ◌-◌, ◌%◌, ◌<◌, ltb};
 ghost use Rattle.nodes.specs.internal.Parts.{parted, covers, hashes, memory_at, links_in, heads_in};
 ghost use Rattle.nodes.specs.internal.Operate.{slots_in};
 ghost use Rattle.nodes.specs.internal.Index.{hash_of, coverage};
 
-use super::apply::pick;
-
 // x, less m where it has that much.
 fn lessened(x: usize, m: usize) -> usize
     ensures { result ≡ cond (ltb x m) x (x - m) }
 {
-    if x < m { x } else { x - m }
+    x.checked_sub(m).unwrap_or(x)
 }
 
 // x % n, without a division where x is below 8 n.
@@ -32,9 +31,8 @@ pub(crate) fn hash(v: u32, lo: u32, hi: u32, n: usize) -> usize
     requires { 0 < n }
     ensures { (result ≡ hash_of v lo hi n) × (result < n) }
 {
-    let rises = lo < hi;
-    let near = pick(rises, hi, lo) as usize;
-    let far = pick(rises, lo, hi) as usize;
+    let near = lo.max(hi) as usize;
+    let far = lo.min(hi) as usize;
     let x = 7 * (v as usize) + 2 * near + far % 1024;
     if x < n {
         return x;
@@ -54,7 +52,7 @@ pub(crate) fn slot(a: u32, b: u32, c: u32, n: usize) -> usize
 fn parted(work: &[u32]) -> usize
     ensures { result ≡ parted work.now }
 {
-    if 0 < work.len() { work.len() - 1 } else { 0 }
+    work.len().saturating_sub(1)
 }
 
 // How many entries have a link: as many as the first word says, the table's length, but at most half of the words behind it.
@@ -62,12 +60,10 @@ fn parted(work: &[u32]) -> usize
 pub(crate) fn covers(work: &[u32]) -> usize
     ensures { result ≡ covers work.now }
 {
-    if work.len() == 0 {
+    let Some(entries) = work.first() else {
         return 0;
-    }
-    let entries = work[0] as usize;
-    let most = (work.len() - 1) / 2;
-    if entries < most { entries } else { most }
+    };
+    (*entries as usize).min(parted(work) / 2)
 }
 
 // How many heads the index has.

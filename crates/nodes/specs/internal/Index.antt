@@ -1,12 +1,12 @@
 -- An index of the nodes of a table, by which a node is found from its level and its children: chains in two lists of any length.
 -- `head` has a place for each hash, and `next` for each entry up to its length; entries past it are in no chain. Assumes nothing.
-use Rattle.std.specs.Prelude.{◌≡◌, cond, List, ℕ, ◌+◌, ◌*◌, ◌%◌, ◌≤◌, ◌<◌, eqb, ltb, length, get_or, set}
+use Rattle.std.specs.Prelude.{◌≡◌, cond, List, ℕ, ◌+◌, ◌*◌, ◌%◌, ◌≤◌, ◌<◌, eqb, min, max, length, get_or, set, Option, Some, None}
 use Rattle.nodes.specs.Table.{Table, level_of, low_of, high_of}
 use Rattle.nodes.specs.internal.Parts.{hashes, heads_at, memory_at, links_in, heads_in, memo_in}
 
 -- a number below n, for n above 0, that depends on v, lo and hi
 unfoldable pub hash_of : ℕ → ℕ → ℕ → ℕ → ℕ
-hash_of v lo hi n = (7 * v + 2 * cond (ltb lo hi) hi lo + cond (ltb lo hi) lo hi % 1024) % n
+hash_of v lo hi n = (7 * v + 2 * max lo hi + min lo hi % 1024) % n
 
 -- how many entries the index covers
 abbrev pub coverage : List ℕ → List ℕ → ℕ
@@ -47,17 +47,16 @@ Indexing t work = Indexed t (heads_in work) (links_in work)
 abbrev pub Linking : List ℕ → ℕ → ℕ → ℕ → ℕ → List ℕ → Type 0
 Linking work used v lo hi work' = Linked (heads_in work) (links_in work) used v lo hi (heads_in work') (links_in work') × (memo_in work' ≡ memo_in work)
 
--- a place of the work list is that of a head, or 0 and there is no head
-pub record InIndex (work : List ℕ) (head : ℕ) : Type 0 where
-  pub none : head ≡ 0 → hashes work ≡ 0
-  pub from : 0 < head → heads_at work ≤ head
-  pub to : 0 < head → head < memory_at work
+-- a place of the work list is that of a head; or there is none, since the index has no head
+abbrev pub InIndex : List ℕ → Option ℕ → Type 0
+InIndex work (Some head) = (heads_at work ≤ head) × (head < memory_at work)
+InIndex work None = hashes work ≡ 0
 
 -- the chain of the node of v, lo and hi begins there
-pub record Begins (work : List ℕ) (v lo hi head : ℕ) : Type 0 where
-  pub in_index : InIndex work head
-  pub place : 0 < head → head ≡ heads_at work + hash_of v lo hi (hashes work)
+abbrev pub Begins : List ℕ → ℕ → ℕ → ℕ → Option ℕ → Type 0
+Begins work v lo hi (Some head) = (hash_of v lo hi (hashes work) < hashes work) × (head ≡ heads_at work + hash_of v lo hi (hashes work))
+Begins work v lo hi None = hashes work ≡ 0
 
 -- node `used` has been put into the chain that begins there
-abbrev pub LinkingAt : List ℕ → ℕ → ℕ → List ℕ → Type 0
+abbrev pub LinkingAt : List ℕ → ℕ → Option ℕ → List ℕ → Type 0
 LinkingAt work used head work' = (v lo hi : ℕ) → Begins work v lo hi head → Linking work used v lo hi work'

@@ -1,8 +1,6 @@
 -- What making a node needs and answers. Assumes nothing.
-use Rattle.std.specs.Prelude.{◌≡◌, List, ℕ, ◌+◌, ◌≤◌, ◌<◌, length, Option, Some, None, Result, Ok, Err}
+use Rattle.std.specs.Prelude.{◌≡◌, List, ℕ, ◌≤◌, ◌<◌, length, Option, Some, None, Result, Ok, Err}
 use Rattle.nodes.specs.declared.manager.Full.{Full}
-use Rattle.nodes.specs.declared.unique.MadeNode.{MadeNode}
-use Rattle.nodes.specs.declared.unique.MadeNode.TheVariants.{Found, New}
 use Rattle.nodes.specs.Fun.{Fun}
 use Rattle.nodes.specs.internal.Packed.{packed_table}
 use Rattle.nodes.specs.internal.Parts.{memo_in}
@@ -50,11 +48,6 @@ pub record MadeAt (t t' : Table) (f : Fun) (i : ℕ) : Type 0 where
   pub built : Built t t' f i
   pub fresh : (k : ℕ) → t.used ≤ k → k < t'.used → k ≡ i
 
--- the same of a node that t did not have
-pub record MadeNew (t t' : Table) (f : Fun) (i : ℕ) : Type 0 where
-  pub absent : Absent t f
-  pub made : MadeAt t t' f i
-
 -- the lists that a call holds: the table in two, the work list, and how many entries are in use
 pub record Held : Type 0 where
   pub packed : List ℕ
@@ -79,14 +72,7 @@ pub record Serves (h h' : Held) : Type 0 where
   pub indexing : Indexing (held_table h') h'.work
   pub memo : memo_in h'.work ≡ memo_in h.work
 
--- The step that makes a node says whether it is new. Found: the entries in use are those of before, and i is one of them. New: i is the one entry more,
--- and no entry stood for f before. Full: no entry stands for f, and none is left for it.
-abbrev pub MakesNode : Held → List ℕ → List ℕ → List ℕ → Fun → Result MadeNode Full → Type 0
-MakesNode h packed high work f (Ok (Found i)) = let h' = held packed high work h.used in MadeAt (held_table h) (held_table h') f i × Serves h h'
-MakesNode h packed high work f (Ok (New i)) = let h' = held packed high work (h.used + 1) in MadeNew (held_table h) (held_table h') f i × Serves h h'
-MakesNode h packed high work f (Err e) = Lacking h (held packed high work h.used) f
-
--- its caller counts
+-- An entry stands for f: one that is there already, or one entry more. Or no entry does, and none is left for it.
 abbrev pub Makes : Held → Held → Fun → Result ℕ Full → Type 0
 Makes h h' f (Ok i) = MadeAt (held_table h) (held_table h') f i × Serves h h'
 Makes h h' f (Err e) = Lacking h h' f

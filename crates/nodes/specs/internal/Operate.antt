@@ -3,6 +3,7 @@ use Rattle.std.specs.Prelude.{◌≡◌, ◌⊎◌, Bool, true, false, cond, ◌
 use Rattle.nodes.specs.declared.apply.Operation.{Operation}
 use Rattle.nodes.specs.declared.apply.Operation.TheVariants.{And, Or, Not, Fix}
 use Rattle.nodes.specs.declared.computed.Key.{Key}
+use Rattle.nodes.specs.declared.computed.Slot.{Slot}
 use Rattle.nodes.specs.Fun.{Fun, both, either, negated, fixed, exists, digit}
 use Rattle.nodes.specs.Table.{Table, last_level, constant_level, max_length, level_of, den, WellFormed}
 use Rattle.nodes.specs.internal.Parts.{memory_at, links_in, heads_in, memo_in}
@@ -133,6 +134,11 @@ pub record Holds (memo : List ℕ) (o f g r : ℕ) : Type 0 where
   pub right : get_or memo (4 * slot + 2) 0 ≡ g
   pub result : get_or memo (4 * slot + 3) 0 ≡ r
 
+-- what was read from a slot
+abbrev pub HeldIn : List ℕ → Option Slot → Type 0
+HeldIn memo (Some x) = Holds memo x.number x.first x.second x.third
+HeldIn memo None = Unit {0}
+
 abbrev pub Recalled : List ℕ → Key → Option ℕ → Type 0
 Recalled memo k (Some r) = Holds memo k.number k.left k.right r
 Recalled memo k None = Unit {0}
@@ -149,9 +155,9 @@ Stores memo o f g r memo' =
 abbrev pub slots_in : List ℕ → ℕ
 slots_in work = (length work - memory_at work) / 4
 
--- the result r of a key is in the memory, or nothing was written; the index is as it was
-pub record Remembers (work : List ℕ) (k : Key) (r : ℕ) (work' : List ℕ) : Type 0 where
-  pub stores : Stores (memo_in work) k.number k.left k.right r (memo_in work')
+-- a slot of the memory holds x, or nothing was written; the index is as it was
+pub record Remembers (work : List ℕ) (x : Slot) (work' : List ℕ) : Type 0 where
+  pub stores : Stores (memo_in work) x.number x.first x.second x.third (memo_in work')
   pub heads : heads_in work' ≡ heads_in work
   pub links : links_in work' ≡ links_in work
 

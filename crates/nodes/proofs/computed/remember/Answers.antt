@@ -5,5 +5,5 @@ use Rattle.nodes.proofs.computed.remember.Goals as goal
 
 pub returns : goal.returns
 returns c =
-    let k = c.args.key in
-    work_keeps c.args.work.now _ c.memory_at.ensures k.number k.left k.right c.args.r c.args.s (omega (arith, c.if-slots-s.false, c.slots.ensures))
+    let x = c.args.x in
+    work_keeps c.args.work.now _ c.memory_at.ensures x.number x.first x.second x.third c.args.s (omega (arith, c.if-slots-s.false, c.slots.ensures))

@@ -16,9 +16,10 @@ returns-in_err-i c =
 pub invariant_of-self : goal.invariant_of-self
 invariant_of-self c =
     let m = c.make.new.self in
+    let k = c.args.key in
     record {
       formed = m.formed;
-      helping = helping_stores (table_of m) c.args.key _
+      helping = helping_stores (table_of m) (record { number = k.number; first = k.left; second = k.right; third = c.in_ok-i.i })
           (made_recalls (table_of c.args.self.now) (table_of m) c.args.self.now.formed c.args.key _ c.requires.meant _ c.in_ok-i.ensures.makes.0.built)
           m.work.now _ m.helping c.remember.ensures;
     }

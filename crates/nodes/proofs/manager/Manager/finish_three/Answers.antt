@@ -14,7 +14,7 @@ invariant_of-self c =
     let o = c.number_of in
     record {
       formed = m.formed;
-      helping = helping_stores (table_of m) (record { number = o.result; left = r.zero; right = r.one }) r.any
+      helping = helping_stores (table_of m) (record { number = o.result; first = r.zero; second = r.one; third = r.any })
           (subst (λ (n : ℕ). Recalls (table_of m) n r.zero r.one r.any) (sym o.ensures.0) (three_recalled c.requires.meant c.in_ok-r.ensures.answers))
           m.work.now _ m.helping c.remember.ensures;
     }

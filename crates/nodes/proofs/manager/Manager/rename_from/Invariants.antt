@@ -1,0 +1,11 @@
+-- `nodes::rename_from` meets its contract, level by level: those from k on are done. Assumes nothing.
+use Prim.Native.Nat.{◌+◌, ◌*◌, ◌-◌}
+use Rattle.nodes.specs.internal.Several.{renamed_from}
+use Rattle.nodes.specs.internal.Lent.{entering}
+use Rattle.nodes.specs.internal.Work.{Maps}
+use Rattle.nodes.proofs.manager.Manager.rename_from.Given as goal
+
+abbrev pub invariant-loop-k : goal.invariant-loop-k
+invariant-loop-k l =
+    let n = l.from in
+    Maps (entering l.fn.self) (entering l.self) (renamed_from (n.first + l.k * n.apart) (l.to.first + l.k * n.apart) n.apart (n.count - l.k)) l.f l.g
