@@ -9,7 +9,7 @@ ghost use Rattle.checking.specs.Program.{round_limit, verdict_line, line_in, Pri
 use std::io::Read;
 use std::rt::Files;
 use std::{fmt, fs, io};
-use verdicts::answer::{CompareError, Comparison, Verdict};
+use verdicts::answer::{CompareError, Comparison, NEITHER, SPENT, Verdict};
 use verdicts::compare::compare;
 
 // The largest text: 64 lines of 255 bytes, two digits a byte, with their 0A.
@@ -75,8 +75,8 @@ fn line_of(verdict: Verdict, nodes: u32) -> Line
         Verdict::Equal { rounds, .. } => Line::Equal { rounds, nodes },
         Verdict::Different { rounds } => Line::Different { rounds, nodes },
         Verdict::Spent => Line::Refused {
-            number: 9,
-            side: 2,
+            number: SPENT,
+            side: NEITHER,
             line: 0,
         },
     }
