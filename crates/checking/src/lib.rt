@@ -31,6 +31,7 @@ pub enum Line {
 }
 
 // What both lines say.
+// Kept: `Modes<Line>` would be the same two fields, in a name that says less.
 #[derive(Clone, Copy)]
 pub struct Lines {
     pub strong: Line,
