@@ -114,10 +114,9 @@ fn compare_within(left: &[u8], right: &[u8], limit: u64) -> Lines
     let mut low = [0u32; LENGTH];
     let mut high = [0u32; LENGTH];
     let mut work = [0u32; 4 * LENGTH];
-    let a = compare(
+    lines_of(compare(
         left, right, limit, &mut level, &mut low, &mut high, &mut work,
-    );
-    lines_of(a)
+    ))
 }
 
 // What the program prints of two texts.
@@ -128,8 +127,7 @@ fn compare_texts(left: &[u8], right: &[u8]) -> Lines
 }
 
 fn print_lines(rt: &impl Print, lines: Lines) -> io::Result<()> {
-    let strong = lines.strong;
-    let weak = lines.weak;
+    let Lines { strong, weak } = lines;
     println!(rt; "strong {strong}")?;
     println!(rt; "weak {weak}")
 }
