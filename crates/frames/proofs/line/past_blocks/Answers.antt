@@ -17,8 +17,9 @@ pub returns : goal.returns
 returns c =
     let rest = c.in-Some.ensures.lookup.0.2 ∙ rest_is c.args.text.now c.args.at in
     let blocks = c.as_chunks.result.0.now in
-    let counted : c.count.result ≡ prefix_len unbroken blocks =
-    count_from_yields_List c.take_while.result _ c.count.ensures.ran (YieldsList-from_take_while _ unbroken (YieldsList-from_slice blocks cc) c.take_while.ensures.closure c.take_while.ensures.done (λ x b q k. search (rules, tests)))
+    let counted : c.count-passed.result ≡ prefix_len unbroken blocks =
+    count_from_yields_List c.take_while.result _ c.count-passed.ensures.ran
+    (YieldsList-from_take_while _ unbroken (YieldsList-from_slice blocks cc) c.take_while.ensures.closure c.take_while.ensures.done (λ x b q k. search (rules, tests)))
     ∙ length-prefix_len unbroken blocks in
     let told = ap (prefix_len unbroken) c.as_chunks.ensures.front ∙ blocks_told c.in-Some.rest.now ∙ ap (λ (l : List ℕ). line_length l / block) rest in
     omega (arith, counted, told)
