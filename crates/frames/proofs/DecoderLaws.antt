@@ -1,8 +1,10 @@
 -- Laws of decoding in one pass: a line may be cut anywhere, and what comes out is what decoding the whole line answers. Assumes nothing.
-use Rattle.std.proofs.Common.{◌≡◌, ℕ, zero, suc, ◌+◌, ◌-◌, ◌*◌, ◌/◌, ◌%◌, ◌<◌, ◌≤◌, min, Bool, true, false, cond, not, ◌&&◌, ◌||◌, eqb, ltb, leb, ◌⊎◌, List, [], ◌∷◌, ◌++◌, length, get_or, take, drop, set, replicate, Option, Some, None, Ok, Err, sym, refl, ap, ◌∙◌, subst, ap₂, inl, inr, add-zero, mod-eq_of_lt, add-one, arith, length-drop, take-append-drop, take_all, take_at, drop-cons, take-add, ltb-false, ltb-true, le-ltb, lt-ltb, eq-eqb, ne_eqb, eqb-true, le-leb, leb-false, leb-true}
+use Rattle.std.proofs.Common.{◌≡◌, ℕ, zero, suc, ◌+◌, ◌-◌, ◌*◌, ◌/◌, ◌%◌, ◌<◌, ◌≤◌, min, Bool, true, false, cond, not, ◌&&◌, ◌||◌, eqb, ltb, leb, ◌⊎◌, List, [], ◌∷◌, ◌++◌, length, get_or, take, drop, set, replicate, Option, Some, None, Ok, Err, sym, refl, ap, ◌∙◌, subst, ap₂, inl, inr, add-zero, mod-eq_of_lt, add-one, arith, length-drop, drop-drop, take-append-drop, take_all, take_at, drop-cons, take-add, ltb-false, ltb-true, le-ltb, lt-ltb, eq-eqb, ne_eqb, eqb-true, le-leb, leb-false, leb-true}
 use mathlib.Core.Bool.{or-false}
 use borrow.Author.Tests.{lt-leb, eqb-false}
 use lib.Seq.{sets, sets-eq}
+use Rattle.std.proofs.lemmas.List.{get_or-take, get_or-drop}
+use Rattle.std.specs.Simd.{first_chunks}
 use Rattle.std.specs.Option.{is_some, unwrap_or}
 use Rattle.std.specs.List.{list_any, IsFirstAndRest}
 use Rattle.frames.specs.Bytes.{hex_value, is_hex, all, spelt, bytes_of, max_bytes}
@@ -231,6 +233,27 @@ pub run_none : (d : Decoder) (ds : List ℕ) → length ds ≡ 0 → d ≡ run d
 unfolding run
 run_none d [] e = refl
 run_none d (c ∷ ds) e = absurd (omega arith)
+
+-- the digits as pairs
+pair_at : (k i : ℕ) (ds : List ℕ) → i < k → get_or (first_chunks 2 k ds) i [] ≡ take 2 (drop (2 * i) ds)
+pair_at zero i ds h = absurd (omega arith)
+pair_at (suc k) zero ds h = refl
+pair_at (suc k) (suc i) ds h =
+    let e : 2 + 2 * i ≡ 2 * suc i = omega arith in
+    pair_at k i (drop 2 ds) (omega arith) ∙ ap (take 2) (drop-drop (2 * i) 2 ds) ∙ ap (λ (m : ℕ). take 2 (drop m ds)) e
+
+module _ (ds : List ℕ) (n i : ℕ) {k : ℕ} {pairs : List (List ℕ)} (is : pairs ≡ first_chunks 2 k ds) (h : i < n) (m : n ≤ k) where
+  of_pair : (j : ℕ) → j < 2 → get_or (get_or (take n pairs) i []) j 0 ≡ get_or ds (2 * i + j) 0
+  of_pair j l =
+      ap (λ (p : List ℕ). get_or p j 0) (get_or-take n pairs i [] h ∙ ap (λ (q : List (List ℕ)). get_or q i []) is ∙ pair_at k i ds (omega arith))
+      ∙ get_or-take 2 (drop (2 * i) ds) j 0 l
+      ∙ get_or-drop (2 * i) ds j 0
+
+  pub first_of_pair : read_as (get_or (get_or (take n pairs) i []) 0 0) ≡ read_as (get_or ds (2 * i) 0)
+  first_of_pair = ap read_as (of_pair 0 (omega arith)) ∙ ap (λ (j : ℕ). read_as (get_or ds j 0)) (add-zero (2 * i))
+
+  pub second_of_pair : read_as (get_or (get_or (take n pairs) i []) 1 0) ≡ read_as (get_or ds (2 * i + 1) 0)
+  second_of_pair = ap read_as (of_pair 1 (omega arith))
 
 -- the loop over pairs of digits
 module _ (d : Decoder) (ds : List ℕ) where

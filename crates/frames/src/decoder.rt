@@ -95,20 +95,21 @@ impl Decoder {
         ensures { result ≡ run self digits.now }
     {
         let count = self.count;
-        let pairs = (digits.len() / 2).min(MAX_BYTES.saturating_sub(count));
+        let (pairs, _) = digits.as_chunks::<2>();
+        let read = pairs.len().min(MAX_BYTES.saturating_sub(count));
         let mut stray = self.stray;
         let mut bytes = self.bytes;
-        for i in 0..pairs {
-            let high = hex_value(digits[2 * i]).unwrap_or(NO_DIGIT);
-            let low = hex_value(digits[2 * i + 1]).unwrap_or(NO_DIGIT);
+        for (i, &[first, second]) in pairs[..read].iter().enumerate() {
+            let high = hex_value(first).unwrap_or(NO_DIGIT);
+            let low = hex_value(second).unwrap_or(NO_DIGIT);
             stray = stray | (high == NO_DIGIT) | (low == NO_DIGIT);
             bytes[count + i] = high % 16 * 16 + low % 16;
         }
-        let left = &digits[2 * pairs..];
+        let left = &digits[2 * read..];
         Decoder {
             stray: stray | has_stray(left),
             half: alone(left),
-            count: past_room(count + pairs, left.len()),
+            count: past_room(count + read, left.len()),
             bytes,
         }
     }
