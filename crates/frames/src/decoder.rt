@@ -8,6 +8,7 @@ ghost use Rattle.frames.specs.internal.Decoded.{decoded};
 use super::bytes::{DecodeError, FrameBytes, MAX_BYTES, hex_value};
 
 // The count of a line with more bytes than a frame may have.
+// Kept: the contracts count so (`too_many`); an `Option<usize>`, None for more, would be a match wherever counts are added up or compared.
 const TOO_MANY: usize = 256;
 
 // What the loop over pairs of digits has for a byte that is no digit.
@@ -16,7 +17,8 @@ const NO_DIGIT: u8 = 16;
 
 // All that is kept of the bytes read so far: whether one was no digit, the value of the digit that waits for its second, how many bytes were
 // spelt (256 stands for every larger count), and the first 255 of these, a stray byte read as a 0, with zeros after them.
-// Kept: an array with its count beside it, since there is no heap.
+// Kept: the kit's `ArrayVec` is not `Copy`, which a decoder is, and with room for 255 its length could not be 256.
+// Kept: `stray` beside the values, since each contract says what becomes of every state of the public fields (DECISIONS 67); `Option` of the others would say less.
 #[derive(Clone, Copy)]
 pub struct Decoder {
     pub stray: bool,
