@@ -11,10 +11,6 @@ use super::bytes::{DecodeError, FrameBytes, MAX_BYTES, hex_value};
 // Kept: the contracts count so (`too_many`); an `Option<usize>`, None for more, would be a match wherever counts are added up or compared.
 const TOO_MANY: usize = 256;
 
-// What the loop over pairs of digits has for a byte that is no digit.
-// Kept: one number for each byte there. With `is_none` and `unwrap_or(0)` the loop takes 1.6 times as long (22 µs for 13.5 on 64 lines of 255 bytes).
-const NO_DIGIT: u8 = 16;
-
 // All that is kept of the bytes read so far: whether one was no digit, the value of the digit that waits for its second, how many bytes were
 // spelt (256 stands for every larger count), and the first 255 of these, a stray byte read as a 0, with zeros after them.
 // Kept: the kit's `ArrayVec` is not `Copy`, which a decoder is, and with room for 255 its length could not be 256.
@@ -102,10 +98,10 @@ impl Decoder {
         let mut stray = self.stray;
         let mut bytes = self.bytes;
         for (i, &[first, second]) in pairs[..read].iter().enumerate() {
-            let high = hex_value(first).unwrap_or(NO_DIGIT);
-            let low = hex_value(second).unwrap_or(NO_DIGIT);
-            stray = stray | (high == NO_DIGIT) | (low == NO_DIGIT);
-            bytes[count + i] = high % 16 * 16 + low % 16;
+            let high = hex_value(first);
+            let low = hex_value(second);
+            stray = stray | high.is_none() | low.is_none();
+            bytes[count + i] = high.unwrap_or(0) % 16 * 16 + low.unwrap_or(0) % 16;
         }
         let left = &digits[2 * read..];
         Decoder {
