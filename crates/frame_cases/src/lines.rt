@@ -7,9 +7,6 @@ use std::io;
 
 const SHORT: usize = 16;
 
-// No text here has more lines.
-const MOST: usize = 66;
-
 fn digits(rt: &impl Print, digits: &[u8]) -> io::Result<()> {
     let n = digits.len();
     print!(rt; " {n}")?;
@@ -47,7 +44,8 @@ fn lines(rt: &impl Print, name: &[u8], text: &[u8]) -> io::Result<()> {
     rt.write_all(name)?;
     print!(rt; ":")?;
     let mut reader = Reader::new(text);
-    for _ in 0..=MOST {
+    // A text has no more lines than bytes.
+    for _ in 0..=text.len() {
         if !line(rt, reader)? {
             break;
         }

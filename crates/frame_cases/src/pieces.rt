@@ -12,138 +12,113 @@ use std::io;
 
 const NEWLINE: u8 = 10;
 
-// A piece of at most 64 bytes has no more lines.
-const MOST: usize = 64;
-
-// The lines accepted, the state of the line that goes on, whether it has begun, and the first refusal.
+// The lines accepted, and the state of a line that has begun.
 #[derive(Clone, Copy)]
 struct Progress {
     summary: Summary,
-    decoder: Decoder,
-    begun: bool,
-    refusal: Option<Refusal>,
+    decoder: Option<Decoder>,
 }
 
-fn begin() -> Progress {
-    Progress {
-        summary: Summary::new(),
-        decoder: Decoder::new(),
-        begun: false,
-        refusal: None,
+// The text is refused at the line after those of the summary.
+fn refused(summary: Summary, refusal: Refusal) -> TextError {
+    TextError {
+        refusal,
+        line: summary.lines,
+        summary,
     }
 }
 
-// The line ends with these digits.
-fn end_line(p: Progress, digits: &[u8]) -> Progress {
-    let decoder = p.decoder;
-    let before = p.summary;
-    let taken = before.take_decoder(decoder.run(digits));
-    Progress {
-        summary: taken.summary,
-        decoder: Decoder::new(),
-        begun: false,
-        refusal: taken.answer.err(),
-    }
-}
-
-// The line goes on in the next piece.
-fn leave_line(p: Progress, digits: &[u8]) -> Progress {
-    let decoder = p.decoder;
-    let mut q = p;
-    q.decoder = decoder.run(digits);
-    q.begun = true;
-    q
-}
-
-// The reader's next line.
-fn line(p: Progress, reader: Reader) -> Progress {
-    match reader.state() {
-        LineState::Ended => end_line(p, reader.digits()),
-        LineState::Unended => leave_line(p, reader.digits()),
-        LineState::NoLine => p,
-    }
-}
-
-fn read_piece(p: Progress, piece: &[u8]) -> Progress {
-    let mut q = p;
-    let mut reader = Reader::new(piece);
-    for _ in 0..MOST {
-        if q.refusal.is_none() {
-            q = line(q, reader);
-            reader = reader.after();
+impl Progress {
+    fn new() -> Progress {
+        Progress {
+            summary: Summary::new(),
+            decoder: None,
         }
     }
-    q
-}
 
-// One byte more, without a reader.
-fn read_byte(p: Progress, b: u8) -> Progress {
-    if b == NEWLINE {
-        return end_line(p, b"");
+    // The state of the line that goes on, or of one that begins.
+    fn decoder(self) -> Decoder {
+        self.decoder.unwrap_or(Decoder::new())
     }
-    let decoder = p.decoder;
-    let mut q = p;
-    q.decoder = decoder.push(b);
-    q.begun = true;
-    q
+
+    // The line ends with these digits.
+    fn end_line(self, digits: &[u8]) -> Result<Progress, TextError> {
+        let taken = self.summary.take_decoder(self.decoder().run(digits));
+        match taken.answer {
+            Ok(_) => Ok(Progress {
+                summary: taken.summary,
+                decoder: None,
+            }),
+            Err(refusal) => Err(refused(taken.summary, refusal)),
+        }
+    }
+
+    // The line goes on in the next piece.
+    fn leave_line(self, decoder: Decoder) -> Progress {
+        Progress {
+            summary: self.summary,
+            decoder: Some(decoder),
+        }
+    }
+
+    fn read_piece(self, piece: &[u8]) -> Result<Progress, TextError> {
+        let mut p = self;
+        let mut reader = Reader::new(piece);
+        // A piece has no more lines than bytes.
+        for _ in 0..piece.len() {
+            let digits = reader.digits();
+            p = match reader.state() {
+                LineState::Ended => p.end_line(digits)?,
+                LineState::Unended => p.leave_line(p.decoder().run(digits)),
+                LineState::NoLine => break,
+            };
+            reader = reader.after();
+        }
+        Ok(p)
+    }
+
+    // One byte more, without a reader.
+    fn read_byte(self, b: u8) -> Result<Progress, TextError> {
+        if b == NEWLINE {
+            return self.end_line(b"");
+        }
+        Ok(self.leave_line(self.decoder().push(b)))
+    }
+
+    // What the text answers where its bytes end here: an empty text and an unended line are refused with 1.
+    fn close(self) -> Result<Summary, TextError> {
+        if self.decoder.is_some() || self.summary.lines == 0 {
+            return Err(refused(self.summary, Refusal::Spelling));
+        }
+        Ok(self.summary)
+    }
 }
 
 fn read_bytes(text: &[u8]) -> Result<Summary, TextError> {
-    let mut p = begin();
+    let mut p = Progress::new();
     for byte in text {
-        if p.refusal.is_none() {
-            p = read_byte(p, *byte);
-        }
+        p = p.read_byte(*byte)?;
     }
-    close(p)
-}
-
-// What the text answers where its bytes end here: an empty text and an unended line are refused with 1.
-fn close(p: Progress) -> Result<Summary, TextError> {
-    let summary = p.summary;
-    let line = summary.lines;
-    if let Some(refusal) = p.refusal {
-        return Err(TextError {
-            refusal,
-            line,
-            summary,
-        });
-    }
-    if p.begun || line == 0 {
-        return Err(TextError {
-            refusal: Refusal::Spelling,
-            line,
-            summary,
-        });
-    }
-    Ok(summary)
+    p.close()
 }
 
 fn read_pieces(text: &[u8], size: usize) -> Result<Summary, TextError>
     requires { 1 ≤ size }
 {
-    let mut p = begin();
+    let mut p = Progress::new();
     for piece in text.chunks(size) {
-        p = read_piece(p, piece);
+        p = p.read_piece(piece)?;
     }
-    close(p)
-}
-
-fn show_size(rt: &impl Print, text: &[u8], size: usize) -> io::Result<()>
-    requires { 1 ≤ size }
-{
-    print!(rt; " of {size}")?;
-    answer(rt, read_pieces(text, size))
+    p.close()
 }
 
 // What reading in pieces of so many bytes answers, and pushing one byte after the other.
 pub fn show(rt: &impl Print, text: &[u8]) -> io::Result<()> {
     print!(rt; "    pieces")?;
-    show_size(rt, text, 1)?;
-    show_size(rt, text, 2)?;
-    show_size(rt, text, 3)?;
-    show_size(rt, text, 7)?;
-    show_size(rt, text, 64)?;
+    for size in [1, 2, 3, 7, 64] {
+        print!(rt; " of {size}")?;
+        answer(rt, read_pieces(text, size))?;
+    }
     print!(rt; " pushed")?;
     answer(rt, read_bytes(text))?;
     println!(rt)

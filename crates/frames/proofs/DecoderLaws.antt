@@ -1,8 +1,10 @@
 -- Laws of decoding in one pass: a line may be cut anywhere, and what comes out is what decoding the whole line answers. Assumes nothing.
-use Rattle.std.proofs.Common.{◌≡◌, ℕ, zero, suc, ◌+◌, ◌-◌, ◌*◌, ◌/◌, ◌%◌, ◌<◌, ◌≤◌, min, Bool, true, false, cond, not, ◌&&◌, ◌||◌, eqb, ltb, leb, ◌⊎◌, List, [], ◌∷◌, ◌++◌, length, get_or, take, drop, set, replicate, Option, Some, None, Ok, Err, sym, refl, ap, ◌∙◌, subst, ap₂, inl, inr, add-zero, mod-eq_of_lt, add-one, arith, length-drop, take-append-drop, take_all, take_at, drop-cons, take-add, ltb-false, ltb-true, le-ltb, lt-ltb, eq-eqb, ne_eqb, eqb-true, le-leb, leb-false, leb-true}
+use Rattle.std.proofs.Common.{◌≡◌, ℕ, zero, suc, ◌+◌, ◌-◌, ◌*◌, ◌/◌, ◌%◌, ◌<◌, ◌≤◌, min, Bool, true, false, cond, not, ◌&&◌, ◌||◌, eqb, ltb, leb, ◌⊎◌, List, [], ◌∷◌, ◌++◌, length, get_or, take, drop, set, replicate, Option, Some, None, Ok, Err, sym, refl, ap, ◌∙◌, subst, ap₂, inl, inr, add-zero, mod-eq_of_lt, add-one, arith, length-drop, drop-drop, take-append-drop, take_all, take_at, drop-cons, take-add, ltb-false, ltb-true, le-ltb, lt-ltb, eq-eqb, ne_eqb, eqb-true, le-leb, leb-false, leb-true}
 use mathlib.Core.Bool.{or-false}
 use borrow.Author.Tests.{lt-leb, eqb-false}
 use lib.Seq.{sets, sets-eq}
+use Rattle.std.proofs.lemmas.List.{get_or-take, get_or-drop}
+use Rattle.std.specs.Simd.{first_chunks}
 use Rattle.std.specs.Option.{is_some, unwrap_or}
 use Rattle.std.specs.List.{list_any, IsFirstAndRest}
 use Rattle.frames.specs.Bytes.{hex_value, is_hex, all, spelt, bytes_of, max_bytes}
@@ -62,22 +64,16 @@ read_digit c = go (ltb (hex_value c) 16) refl
     go true e = sym (mod-eq_of_lt {n = hex_value c} {m = 16} (ltb-true (hex_value c) 16 e))
     go false e = let s : hex_value c ≡ 16 = omega (arith, ltb-false (hex_value c) 16 e, hex_value_le c) in rw s
 
--- with 16 for no digit
-pub read_value : (c : ℕ) {o : Option ℕ} {v : ℕ} → o ≡ read_as c → v ≡ unwrap_or o 16 → v ≡ hex_value c
-unfolding is_hex
-read_value c p q = rw (q, p) (go (ltb (hex_value c) 16) refl)
-  where
-    go : (b : Bool) → ltb (hex_value c) 16 ≡ b → unwrap_or {T = ℕ} (cond b (Some (hex_value c)) None) 16 ≡ hex_value c
-    go true e = refl
-    go false e = omega (arith, ltb-false (hex_value c) 16 e, hex_value_le c)
+module _ (c : ℕ) {o : Option ℕ} (is : o ≡ read_as c) where
+  pub digit_is : {v : ℕ} → v ≡ unwrap_or o 0 → v ≡ digit_of c
+  digit_is q = q ∙ ap (λ (o : Option ℕ). unwrap_or o 0) is ∙ read_digit c
 
-stray_test : (c : ℕ) → eqb (hex_value c) 16 ≡ not (is_hex c)
-unfolding is_hex
-stray_test c = go (ltb (hex_value c) 16) refl
-  where
-    go : (b : Bool) → ltb (hex_value c) 16 ≡ b → eqb (hex_value c) 16 ≡ not b
-    go true e = ne_eqb (hex_value c) 16 (λ q. omega (arith, ltb-true (hex_value c) 16 e))
-    go false e = eq-eqb (hex_value c) 16 (omega (arith, ltb-false (hex_value c) 16 e, hex_value_le c))
+  pub none_is : (r : Bool) → is_some o ≡ not r → r ≡ not (is_hex c)
+  none_is r q = go r ∙ ap not (sym q ∙ ap (λ (o : Option ℕ). is_some o) is ∙ read_some c)
+    where
+      go : (b : Bool) → b ≡ not (not b)
+      go true = refl
+      go false = refl
 
 -- some byte is no digit
 pub any_stray : (l : List ℕ) → list_any (λ c. not (is_hex c)) l ≡ not (all is_hex l)
@@ -232,6 +228,27 @@ unfolding run
 run_none d [] e = refl
 run_none d (c ∷ ds) e = absurd (omega arith)
 
+-- the digits as pairs
+pair_at : (k i : ℕ) (ds : List ℕ) → i < k → get_or (first_chunks 2 k ds) i [] ≡ take 2 (drop (2 * i) ds)
+pair_at zero i ds h = absurd (omega arith)
+pair_at (suc k) zero ds h = refl
+pair_at (suc k) (suc i) ds h =
+    let e : 2 + 2 * i ≡ 2 * suc i = omega arith in
+    pair_at k i (drop 2 ds) (omega arith) ∙ ap (take 2) (drop-drop (2 * i) 2 ds) ∙ ap (λ (m : ℕ). take 2 (drop m ds)) e
+
+module _ (ds : List ℕ) (n i : ℕ) {k : ℕ} {pairs : List (List ℕ)} (is : pairs ≡ first_chunks 2 k ds) (h : i < n) (m : n ≤ k) where
+  of_pair : (j : ℕ) → j < 2 → get_or (get_or (take n pairs) i []) j 0 ≡ get_or ds (2 * i + j) 0
+  of_pair j l =
+      ap (λ (p : List ℕ). get_or p j 0) (get_or-take n pairs i [] h ∙ ap (λ (q : List (List ℕ)). get_or q i []) is ∙ pair_at k i ds (omega arith))
+      ∙ get_or-take 2 (drop (2 * i) ds) j 0 l
+      ∙ get_or-drop (2 * i) ds j 0
+
+  pub first_of_pair : read_as (get_or (get_or (take n pairs) i []) 0 0) ≡ read_as (get_or ds (2 * i) 0)
+  first_of_pair = ap read_as (of_pair 0 (omega arith)) ∙ ap (λ (j : ℕ). read_as (get_or ds j 0)) (add-zero (2 * i))
+
+  pub second_of_pair : read_as (get_or (get_or (take n pairs) i []) 1 0) ≡ read_as (get_or ds (2 * i + 1) 0)
+  second_of_pair = ap read_as (of_pair 1 (omega arith))
+
 -- the loop over pairs of digits
 module _ (d : Decoder) (ds : List ℕ) where
   -- one pair more
@@ -253,16 +270,15 @@ module _ (d : Decoder) (ds : List ℕ) where
   unfolding run
   pairs_none even = same_state refl even (sym (add-zero d.count))
 
-  pub pairs_on : (n i : ℕ) {s : Bool} {b : List ℕ} {high low : ℕ} → 2 * i + 1 < length ds → n + i < max_bytes
+  pub pairs_on : (n i : ℕ) {s : Bool} {b : List ℕ} {x y : Bool} {high low : ℕ} → 2 * i + 1 < length ds → n + i < max_bytes
       → run d (take (2 * i) ds) ≡ record { stray = s; half = None; count = n + i; bytes = b }
-      → high ≡ hex_value (get_or ds (2 * i) 0) → low ≡ hex_value (get_or ds (2 * i + 1) 0)
-      → run d (take (2 * (i + 1)) ds) ≡ record { stray = (s || eqb high 16) || eqb low 16; half = None; count = n + (i + 1); bytes = set b (n + i) (high % 16 * 16 + low % 16) }
-  unfolding digit_of
-  pairs_on n i {s} {b} {high} {low} h r q x y =
+      → high ≡ digit_of (get_or ds (2 * i) 0) → low ≡ digit_of (get_or ds (2 * i + 1) 0) → x ≡ not (is_hex (get_or ds (2 * i) 0)) → y ≡ not (is_hex (get_or ds (2 * i + 1) 0))
+      → run d (take (2 * (i + 1)) ds) ≡ record { stray = (s || x) || y; half = None; count = n + (i + 1); bytes = set b (n + i) (high % 16 * 16 + low % 16) }
+  pairs_on n i {s} {b} {x} {y} {high} {low} h r q u v w z =
       let e : n + i + 1 ≡ n + (i + 1) = omega arith in
       pair_more i h q
       ∙ pair_kept (record { stray = s; half = None; count = n + i; bytes = b }) (get_or ds (2 * i) 0) (get_or ds (2 * i + 1) 0) refl r
-      ∙ rw (x, y, stray_test (get_or ds (2 * i) 0), stray_test (get_or ds (2 * i + 1) 0), e)
+      ∙ rw (u, v, w, z, e, mod-eq_of_lt {n = digit_of (get_or ds (2 * i) 0)} {m = 16} (digit_of_small (get_or ds (2 * i) 0)), mod-eq_of_lt {n = digit_of (get_or ds (2 * i + 1) 0)} {m = 16} (digit_of_small (get_or ds (2 * i + 1) 0))) refl
 
   pub pairs_end : d.half ≡ None → (n i : ℕ) {s : Bool} {b : List ℕ} → i ≡ n
       → run (record { stray = d.stray; half = None; count = d.count; bytes = d.bytes }) (take (2 * i) ds) ≡ record { stray = s; half = None; count = d.count + i; bytes = b }

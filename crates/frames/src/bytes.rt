@@ -15,6 +15,7 @@ pub enum DecodeError {
 }
 
 // The bytes of one frame: contracts see them as a list.
+// Kept: that takes a struct with a model round the kit's `ArrayVec` too, `FrameBytes(ArrayVec<u8, 255>)`, made by `from` and then `truncate` in place of one literal.
 #[derive(Drop)]
 pub struct FrameBytes {
     bytes: [u8; MAX_BYTES],

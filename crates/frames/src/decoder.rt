@@ -8,15 +8,13 @@ ghost use Rattle.frames.specs.internal.Decoded.{decoded};
 use super::bytes::{DecodeError, FrameBytes, MAX_BYTES, hex_value};
 
 // The count of a line with more bytes than a frame may have.
+// Kept: the contracts count so (`too_many`); an `Option<usize>`, None for more, would be a match wherever counts are added up or compared.
 const TOO_MANY: usize = 256;
-
-// What the loop over pairs of digits has for a byte that is no digit.
-// Kept: one number for each byte there. With `is_none` and `unwrap_or(0)` the loop takes 1.6 times as long (22 µs for 13.5 on 64 lines of 255 bytes).
-const NO_DIGIT: u8 = 16;
 
 // All that is kept of the bytes read so far: whether one was no digit, the value of the digit that waits for its second, how many bytes were
 // spelt (256 stands for every larger count), and the first 255 of these, a stray byte read as a 0, with zeros after them.
-// Kept: an array with its count beside it, since there is no heap.
+// Kept: the kit's `ArrayVec` is not `Copy`, which a decoder is, and with room for 255 its length could not be 256.
+// Kept: `stray` beside the values, since each contract says what becomes of every state of the public fields (DECISIONS 67); `Option` of the others would say less.
 #[derive(Clone, Copy)]
 pub struct Decoder {
     pub stray: bool,
@@ -95,20 +93,21 @@ impl Decoder {
         ensures { result ≡ run self digits.now }
     {
         let count = self.count;
-        let pairs = (digits.len() / 2).min(MAX_BYTES.saturating_sub(count));
+        let (pairs, _) = digits.as_chunks::<2>();
+        let read = pairs.len().min(MAX_BYTES.saturating_sub(count));
         let mut stray = self.stray;
         let mut bytes = self.bytes;
-        for i in 0..pairs {
-            let high = hex_value(digits[2 * i]).unwrap_or(NO_DIGIT);
-            let low = hex_value(digits[2 * i + 1]).unwrap_or(NO_DIGIT);
-            stray = stray | (high == NO_DIGIT) | (low == NO_DIGIT);
-            bytes[count + i] = high % 16 * 16 + low % 16;
+        for (i, &[first, second]) in pairs[..read].iter().enumerate() {
+            let high = hex_value(first);
+            let low = hex_value(second);
+            stray = stray | high.is_none() | low.is_none();
+            bytes[count + i] = high.unwrap_or(0) % 16 * 16 + low.unwrap_or(0) % 16;
         }
-        let left = &digits[2 * pairs..];
+        let left = &digits[2 * read..];
         Decoder {
             stray: stray | has_stray(left),
             half: alone(left),
-            count: past_room(count + pairs, left.len()),
+            count: past_room(count + read, left.len()),
             bytes,
         }
     }

@@ -1,7 +1,10 @@
 // Why a line is refused.
 ghost use Rattle.std.specs.Prelude.{◌≡◌};
 ghost use Rattle.frames.specs.Numbers.{refusal_number};
+ghost use Rattle.frames.specs.declared.bytes.DecodeError.TheVariants.{Stray, Long};
+ghost use Rattle.frames.specs.declared.refusal.Refusal.TheVariants.{Spelling, Size};
 
+use super::bytes::DecodeError;
 use std::fmt;
 
 #[derive(Clone, Copy, Debug, PartialEq, Eq)]
@@ -32,6 +35,18 @@ impl Refusal {
             Refusal::Kind => 4,
             Refusal::Range => 5,
             Refusal::Limits => 6,
+        }
+    }
+}
+
+// What is said of a line whose digits give no bytes.
+impl From<DecodeError> for Refusal {
+    ghost from_gives = { λ e r. (e ≡ Stray → r ≡ Spelling) × (e ≡ Long → r ≡ Size) };
+
+    fn from(error: DecodeError) -> Refusal {
+        match error {
+            DecodeError::Stray => Refusal::Spelling,
+            DecodeError::Long => Refusal::Size,
         }
     }
 }
