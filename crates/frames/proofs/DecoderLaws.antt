@@ -75,6 +75,14 @@ module _ (c : ℕ) {o : Option ℕ} (is : o ≡ read_as c) where
       go true = refl
       go false = refl
 
+stray_test : (c : ℕ) → eqb (hex_value c) 16 ≡ not (is_hex c)
+unfolding is_hex
+stray_test c = go (ltb (hex_value c) 16) refl
+  where
+    go : (b : Bool) → ltb (hex_value c) 16 ≡ b → eqb (hex_value c) 16 ≡ not b
+    go true e = ne_eqb (hex_value c) 16 (λ q. omega (arith, ltb-true (hex_value c) 16 e))
+    go false e = eq-eqb (hex_value c) 16 (omega (arith, ltb-false (hex_value c) 16 e, hex_value_le c))
+
 -- some byte is no digit
 pub any_stray : (l : List ℕ) → list_any (λ c. not (is_hex c)) l ≡ not (all is_hex l)
 unfolding all
@@ -270,15 +278,27 @@ module _ (d : Decoder) (ds : List ℕ) where
   unfolding run
   pairs_none even = same_state refl even (sym (add-zero d.count))
 
-  pub pairs_on : (n i : ℕ) {s : Bool} {b : List ℕ} {x y : Bool} {high low : ℕ} → 2 * i + 1 < length ds → n + i < max_bytes
+  pub pair_told : (n i : ℕ) {s : Bool} {b : List ℕ} {x y : Bool} {high low : ℕ} → 2 * i + 1 < length ds → n + i < max_bytes
       → run d (take (2 * i) ds) ≡ record { stray = s; half = None; count = n + i; bytes = b }
       → high ≡ digit_of (get_or ds (2 * i) 0) → low ≡ digit_of (get_or ds (2 * i + 1) 0) → x ≡ not (is_hex (get_or ds (2 * i) 0)) → y ≡ not (is_hex (get_or ds (2 * i + 1) 0))
       → run d (take (2 * (i + 1)) ds) ≡ record { stray = (s || x) || y; half = None; count = n + (i + 1); bytes = set b (n + i) (high % 16 * 16 + low % 16) }
-  pairs_on n i {s} {b} {x} {y} {high} {low} h r q u v w z =
+  pair_told n i {s} {b} {x} {y} {high} {low} h r q u v w z =
       let e : n + i + 1 ≡ n + (i + 1) = omega arith in
       pair_more i h q
       ∙ pair_kept (record { stray = s; half = None; count = n + i; bytes = b }) (get_or ds (2 * i) 0) (get_or ds (2 * i + 1) 0) refl r
       ∙ rw (u, v, w, z, e, mod-eq_of_lt {n = digit_of (get_or ds (2 * i) 0)} {m = 16} (digit_of_small (get_or ds (2 * i) 0)), mod-eq_of_lt {n = digit_of (get_or ds (2 * i + 1) 0)} {m = 16} (digit_of_small (get_or ds (2 * i + 1) 0))) refl
+
+  -- the same by the values of the digits
+  pub pairs_on : (n i : ℕ) {s : Bool} {b : List ℕ} {high low : ℕ} → 2 * i + 1 < length ds → n + i < max_bytes
+      → run d (take (2 * i) ds) ≡ record { stray = s; half = None; count = n + i; bytes = b }
+      → high ≡ hex_value (get_or ds (2 * i) 0) → low ≡ hex_value (get_or ds (2 * i + 1) 0)
+      → run d (take (2 * (i + 1)) ds) ≡ record { stray = (s || eqb high 16) || eqb low 16; half = None; count = n + (i + 1); bytes = set b (n + i) (high % 16 * 16 + low % 16) }
+  unfolding digit_of
+  pairs_on n i {s} {b} {high} {low} h r q x y =
+      let e : n + i + 1 ≡ n + (i + 1) = omega arith in
+      pair_more i h q
+      ∙ pair_kept (record { stray = s; half = None; count = n + i; bytes = b }) (get_or ds (2 * i) 0) (get_or ds (2 * i + 1) 0) refl r
+      ∙ rw (x, y, stray_test (get_or ds (2 * i) 0), stray_test (get_or ds (2 * i + 1) 0), e)
 
   pub pairs_end : d.half ≡ None → (n i : ℕ) {s : Bool} {b : List ℕ} → i ≡ n
       → run (record { stray = d.stray; half = None; count = d.count; bytes = d.bytes }) (take (2 * i) ds) ≡ record { stray = s; half = None; count = d.count + i; bytes = b }

@@ -5,7 +5,6 @@ ghost use Rattle.frames.specs.declared.bytes.DecodeError.TheVariants.{Stray, Lon
 ghost use Rattle.frames.specs.declared.refusal.Refusal.TheVariants.{Spelling, Size};
 
 use super::bytes::DecodeError;
-use std::fmt;
 
 #[derive(Clone, Copy, Debug, PartialEq, Eq)]
 pub enum Refusal {
@@ -48,19 +47,5 @@ impl From<DecodeError> for Refusal {
             DecodeError::Stray => Refusal::Spelling,
             DecodeError::Long => Refusal::Size,
         }
-    }
-}
-
-impl fmt::Display for Refusal {
-    fn fmt<W: fmt::Write>(&self, f: &mut fmt::Formatter<W>) -> fmt::Result {
-        let words = match self {
-            Refusal::Spelling => "no line of hexadecimal digits",
-            Refusal::Size => "fewer than 2 or more than 255 bytes",
-            Refusal::Number => "not the line's number, or line 64",
-            Refusal::Kind => "unknown kind, or a length that the kind can't have",
-            Refusal::Range => "state count, state, action, channel or operand out of range",
-            Refusal::Limits => "too many bits or leaf uses",
-        };
-        f.write_str(words)
     }
 }

@@ -1,7 +1,7 @@
 -- `frames::decoder::Decoder::run_even` meets its contract: the loop keeps what the pairs so far leave, and the calls say what the rest leaves.
 -- Assumes nothing.
 use Rattle.std.proofs.Common.{ℕ, ◌+◌, ◌*◌, ◌<◌, ◌≤◌, ◌/◌, ◌∙◌, min, get_or, length, ap, refl, arith, length-take-le}
-use Rattle.frames.proofs.DecoderLaws.{first_of_pair, second_of_pair, pairs_none, pairs_on, digit_is, none_is, even_is}
+use Rattle.frames.proofs.DecoderLaws.{first_of_pair, second_of_pair, pairs_none, pair_told, digit_is, none_is, even_is}
 use Rattle.frames.proofs.decoder.Decoder.run_even.Goals as goal
 
 pub loop-i-init : goal.loop-i-init
@@ -18,7 +18,7 @@ loop-i-preserved c =
     let few : n ≤ length ds / 2 = omega (arith, len, c.min-read.ensures) in
     let x = c.hex_value-high.ensures ∙ first_of_pair ds n i c.as_chunks.ensures.front passed few in
     let y = c.hex_value-low.ensures ∙ second_of_pair ds n i c.as_chunks.ensures.front passed few in
-    pairs_on _ ds c.args.self.count i (omega arith) (omega (arith, c.min-read.ensures, c.saturating_sub.ensures)) c.loop-i.invariant
+    pair_told _ ds c.args.self.count i (omega arith) (omega (arith, c.min-read.ensures, c.saturating_sub.ensures)) c.loop-i.invariant
     (digit_is (get_or ds (2 * i) 0) x c.unwrap_or.ensures)
     (digit_is (get_or ds (2 * i + 1) 0) y c.unwrap_or-in-loop-i.ensures)
     (none_is (get_or ds (2 * i) 0) x c.is_none.result c.is_none.ensures)
