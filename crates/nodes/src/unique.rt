@@ -4,7 +4,7 @@ ghost use Rattle.std.specs.Bool.{Decides};
 ghost use Rattle.nodes.specs.internal.Parts.{links_in, heads_in};
 ghost use Rattle.nodes.specs.Table.{max_length};
 ghost use Rattle.nodes.specs.internal.Index.{coverage, Indexing, InIndex, Begins, LinkingAt};
-ghost use Rattle.nodes.specs.internal.Make.{Makeable, IsNode, FindsFrom, FindsBelow, Finds, Makes, held, node_fun};
+ghost use Rattle.nodes.specs.internal.Make.{Makeable, IsNode, FindsFrom, FindsBelow, Finds, Makes, IsNew, held, node_fun};
 ghost use Rattle.nodes.specs.internal.Packed.{packing, packed_table};
 ghost use Rattle.nodes.specs.internal.Lent.{table_of, held_by, entering, leaving};
 ghost use Rattle.nodes.specs.internal.Work.{Keeps};
@@ -61,7 +61,8 @@ fn add(
     requires lacking { Finds (packed_table packed.old high.old used.old) node.level node.low node.high None }
     requires indexing { Indexing (packed_table packed.old high.old used.old) work.old }
     requires begins { Begins work.old node.level node.low node.high head }
-    ensures { Makes (held packed.old high.old work.old used.old) (held packed.new high.new work.new used.new) (node_fun (packed_table packed.old high.old used.old) node.level node.low node.high) result }
+    ensures makes { Makes (held packed.old high.old work.old used.old) (held packed.new high.new work.new used.new) (node_fun (packed_table packed.old high.old used.old) node.level node.low node.high) result }
+    ensures is_new { IsNew used.old used.new result }
 {
     let i = *used;
     let at = i as usize;

@@ -1,5 +1,5 @@
 -- What making a node needs and answers. Assumes nothing.
-use Rattle.std.specs.Prelude.{◌≡◌, List, ℕ, ◌≤◌, ◌<◌, length, Option, Some, None, Result, Ok, Err}
+use Rattle.std.specs.Prelude.{◌≡◌, List, ℕ, ◌+◌, ◌≤◌, ◌<◌, length, Option, Some, None, Result, Ok, Err}
 use Rattle.nodes.specs.declared.manager.Full.{Full}
 use Rattle.nodes.specs.Fun.{Fun}
 use Rattle.nodes.specs.internal.Packed.{packed_table}
@@ -76,3 +76,8 @@ pub record Serves (h h' : Held) : Type 0 where
 abbrev pub Makes : Held → Held → Fun → Result ℕ Full → Type 0
 Makes h h' f (Ok i) = MadeAt (held_table h) (held_table h') f i × Serves h h'
 Makes h h' f (Err e) = Lacking h h' f
+
+-- What the step that makes a node says (document 02, point 6): the node is new, the first entry that was not in use, and one entry more is in use.
+abbrev pub IsNew : ℕ → ℕ → Result ℕ Full → Type 0
+IsNew used used' (Ok i) = (i ≡ used) × (used' ≡ used + 1)
+IsNew used used' (Err e) = used' ≡ used

@@ -21,6 +21,6 @@ invariant_of-self c =
     let x = c.add in
     let after : Held = held x.new.packed x.new.high x.new.work x.new.used in
     record {
-      formed = made_formed (held_by m) after _ m.formed x.result x.ensures;
-      helping = made_helping (held_by m) after _ m.formed m.helping x.result x.ensures;
+      formed = made_formed (held_by m) after _ m.formed x.result x.ensures.makes;
+      helping = made_helping (held_by m) after _ m.formed m.helping x.result x.ensures.makes;
     }
