@@ -13,7 +13,7 @@ returns-in-Some u c =
     record { kept = keeps_none; answers = quantify_recalled c.requires (memo_in m.work.now) m.helping.remembered c.in-Some.r c.in-Some.ensures }
 
 -- what is known before the calls on itself
-above : {u : ℕ} (c : After-cofactors-c u) → Above (table_of c.args.self.now) c.args.v c.args.f c.level-l.result c.cofactors-c.result.low c.cofactors-c.result.high
+above : {u : ℕ} (c : After-cofactors-c u) → Above (table_of c.args.self.now) c.args.v.v c.args.f c.level-l.result c.cofactors-c.result.low c.cofactors-c.result.high
 above c = record { ok = c.requires; top = c.level-l.ensures; above = c.if-v-l.false; low = c.cofactors-c.ensures.low; high = c.cofactors-c.ensures.high }
 
 pub returns-in_err-a : goal.returns-in_err-a

@@ -8,7 +8,7 @@ use Rattle.nodes.proofs.manager.Manager.settle_three.Goals as goal
 pub returns-then-v-l : goal.returns-then-v-l
 returns-then-v-l c =
     let pre = c.requires in
-    record { kept = keeps_none; answers = settle_deeper pre.quantifiable (subst (λ (n : ℕ). c.args.v < n) pre.top_level.0 c.if-v-l.true) }
+    record { kept = keeps_none; answers = settle_deeper pre.quantifiable (subst (λ (n : ℕ). c.args.v.v < n) pre.top_level.0 c.if-v-l.true) }
 
 pub returns-in_err-any : goal.returns-in_err-any
 returns-in_err-any c =
