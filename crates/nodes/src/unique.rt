@@ -126,6 +126,7 @@ impl<'packed, 'high, 'work> Manager<'packed, 'high, 'work> {
     }
 
     // The same among all entries in use.
+    // Kept: with `.or_else(|| self.find_from(covered(self.work), node))` the proof did not close: what it ensured said nothing of the closure's answer.
     fn find(&self, head: Option<usize>, node: Node) -> Option<u32>
         requires begins { Begins self.now.work.now node.level node.low node.high head }
         requires low_fits { node.low < max_length }
