@@ -1,7 +1,7 @@
 // ∧, ∨, ¬ and fixing a level by one recursion over the entries of the operands.
 ghost use Rattle.std.specs.Prelude.{◌≡◌, false, true, ◌≤◌, ◌<◌};
 ghost use Rattle.nodes.specs.Fun.{negated};
-ghost use Rattle.nodes.specs.internal.Operate.{operation, number_of, turns_of, key_of, Operands, junction, SettlesBy, Settles, Cofactor, Meant};
+ghost use Rattle.nodes.specs.internal.Operate.{operation, number_of, turns_of, key_of, junction, SettlesBy, Settles, Cofactor, Meant};
 ghost use Rattle.nodes.specs.Table.{level_of, den};
 ghost use Rattle.nodes.specs.internal.Make.{Makeable, node_fun};
 ghost use Rattle.nodes.specs.internal.Lent.{table_of, entering, leaving};
@@ -136,7 +136,7 @@ impl<'packed, 'high, 'work> Manager<'packed, 'high, 'work> {
 
     // The answer where it is an entry at hand.
     fn settle(&self, op: Operation, f: u32, g: u32) -> Option<u32>
-        requires { Operands (table_of self.now) op f g }
+        requires { (f < self.now.used) × (g < self.now.used) }
         ensures { Settles (table_of self.now) op f g result }
     {
         match op {
@@ -166,7 +166,7 @@ impl<'packed, 'high, 'work> Manager<'packed, 'high, 'work> {
 
     // The entry of the result of an operation on what f and g stand for.
     pub fn operate(&mut self, op: Operation, f: u32, g: u32) -> Result<u32, Full>
-        requires { Operands (table_of self.old) op f g }
+        requires { (f < self.old.used) × (g < self.old.used) }
         ensures { Operating (entering self.old) (leaving self.new result) (operation op (den (table_of self.old) f) (den (table_of self.old) g)) result }
     {
         if let Some(k) = self.settle(op, f, g) {

@@ -5,7 +5,7 @@ ghost use Rattle.nodes.specs.internal.Parts.{memo_in};
 ghost use Rattle.nodes.specs.internal.Operate.{last_number, quantifying};
 ghost use Rattle.nodes.specs.Table.{max_length, level_of, den};
 ghost use Rattle.nodes.specs.internal.Lent.{table_of, entering, leaving};
-ghost use Rattle.nodes.specs.internal.Quantify.{Quantifiable, MakeableThree, MeantThree, node_funs, results_of, RecalledThree, Trebling};
+ghost use Rattle.nodes.specs.internal.Quantify.{MakeableThree, MeantThree, node_funs, results_of, RecalledThree, Trebling};
 
 use super::apply::Operation;
 use super::computed::{Slot, remember};
@@ -94,7 +94,7 @@ impl<'packed, 'high, 'work> Manager<'packed, 'high, 'work> {
         f: u32,
     ) -> Result<Trio, Full>
         requires makeable { MakeableThree (table_of self.old) level a b }
-        requires meant { MeantThree (table_of self.old) v.v f (node_funs (table_of self.old) level a b) }
+        requires meant { MeantThree (table_of self.old) v f (node_funs (table_of self.old) level a b) }
         ensures { Trebling (entering self.old) (leaving self.new result) (node_funs (table_of self.old) level a b) result }
     {
         let r = self.make_three(level, a, b)?;
@@ -110,7 +110,7 @@ impl<'packed, 'high, 'work> Manager<'packed, 'high, 'work> {
 
     // The results of ∃v f, where f's level l is v or above it: f itself, or its children and their ∨.
     fn settle_three(&mut self, v: Level, f: u32, l: u8) -> Result<Trio, Full>
-        requires quantifiable { Quantifiable (table_of self.old) v.v f }
+        requires used { f < self.old.used }
         requires top_level { (l ≡ level_of (table_of self.old) f) × (v.v ≤ l) }
         ensures { Trebling (entering self.old) (leaving self.new result) (results_of v.v (den (table_of self.old) f)) result }
     {
@@ -132,7 +132,7 @@ impl<'packed, 'high, 'work> Manager<'packed, 'high, 'work> {
 
     // The entries of what f stands for with level v fixed to 0, fixed to 1, and of ∃v.
     pub(crate) fn quantify(&mut self, v: Level, f: u32) -> Result<Trio, Full>
-        requires { Quantifiable (table_of self.old) v.v f }
+        requires { f < self.old.used }
         ensures { Trebling (entering self.old) (leaving self.new result) (results_of v.v (den (table_of self.old) f)) result }
     {
         let l = self.level(f);

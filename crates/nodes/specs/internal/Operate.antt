@@ -5,7 +5,7 @@ use Rattle.nodes.specs.declared.apply.Operation.TheVariants.{And, Or, Not, Fix}
 use Rattle.nodes.specs.declared.computed.Key.{Key}
 use Rattle.nodes.specs.declared.computed.Slot.{Slot}
 use Rattle.nodes.specs.Fun.{Fun, both, either, negated, fixed, exists, digit}
-use Rattle.nodes.specs.Table.{Table, last_level, constant_level, max_length, level_of, den, WellFormed}
+use Rattle.nodes.specs.Table.{Table, last_level, constant_level, max_length, level_of, den}
 use Rattle.nodes.specs.internal.Parts.{memory_at, links_in, heads_in, memo_in}
 use Rattle.nodes.specs.internal.Index.{Indexed}
 
@@ -41,11 +41,6 @@ turns_of o f g = ltb o 2 && ltb g f
 -- the key of an operation's result
 abbrev pub key_of : ℕ → ℕ → ℕ → Key
 key_of o f g = record { number = o; left = cond (turns_of o f g) g f; right = cond (turns_of o f g) f g }
-
-pub record Operands (t : Table) (o : Operation) (f g : ℕ) : Type 0 where
-  pub formed : WellFormed t
-  pub left : f < t.used
-  pub right : g < t.used
 
 -- ∨ and ∧, by the constant that decides them
 abbrev pub junction : Bool → Fun → Fun → Fun
