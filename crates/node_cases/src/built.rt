@@ -2,7 +2,7 @@
 ghost use Rattle.nodes.specs.internal.Lent.{entering, leaving};
 ghost use Rattle.nodes.specs.internal.Work.{Keeps};
 
-use nodes::levels::Levels;
+use nodes::levels::{Level, Levels};
 use nodes::lookup::{LookUpError, Point, TableSlices, look_up};
 use nodes::manager::{Full, Manager};
 use nodes::start::unpack;
@@ -35,8 +35,8 @@ fn build(manager: &mut Manager) -> Result<Roots, Full>
     let either = manager.or(five, six)?;
     let other = manager.not(five)?;
     let both = manager.and(other, either)?;
-    let some = manager.exists(either, 0)?;
-    let renamed = manager.rename(either, 2, 3)?;
+    let some = manager.exists(either, Level { v: 0 })?;
+    let renamed = manager.rename(either, Level { v: 2 }, Level { v: 3 })?;
     Ok(Roots {
         five,
         six,

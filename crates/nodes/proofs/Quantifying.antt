@@ -14,6 +14,7 @@ use Prim.Native.Nat.{ℕ, suc, ◌<◌, ◌≤◌}
 use native.Mathlib.Omega.{arith}
 use Rattle.std.specs.Prelude.{Some, Result, Ok, Err, IsErr, is_err}
 use Rattle.nodes.specs.declared.apply.Operation.TheVariants.{Or}
+use Rattle.nodes.specs.declared.levels.Level.{Level}
 use Rattle.nodes.specs.declared.manager.Full.{Full}
 use Rattle.nodes.specs.declared.manager.Manager.{Manager}
 use Rattle.nodes.specs.declared.quantify.Trio.{Trio}
@@ -25,7 +26,7 @@ use Rattle.nodes.specs.internal.Make.{Makeable, node_fun, Held, held_table, Make
 use Rattle.nodes.specs.internal.Lent.{table_of, store, leaving}
 use Rattle.nodes.specs.internal.Operate.{operation, Cofactor, Quantified, quantifying, Recalls, Remembered, quantified_level, quantified_entry}
 use Rattle.nodes.specs.internal.Work.{Added, Has, Lacks, Store, Keeps, Does, grew, filled, Stands, Maps}
-use Rattle.nodes.specs.internal.Quantify.{Funs, listed, results_of, Trebled, Quantifiable, MakeableThree, node_funs, RecalledThree, MeantThree, Trebles, Trebling}
+use Rattle.nodes.specs.internal.Quantify.{Funs, listed, results_of, Trebled, MakeableThree, node_funs, RecalledThree, MeantThree, Trebles, Trebling}
 use Rattle.nodes.proofs.Funs.{shannon, from_put, from_fixed, part_fixed, part_refl}
 use Rattle.nodes.proofs.Tables.{den_from, den_extends}
 use Rattle.nodes.proofs.Making.{answered}
@@ -197,23 +198,23 @@ module _ (v f : ℕ) (in_range : v ≤ last_level) where
   asked_entry = omega arith
 
 -- what is made may be remembered
-pub three_recalled : {t t' : Table} {v f : ℕ} {h : Funs} {r : Trio} → MeantThree t v f h → Trebled t t' h r → Recalls t' (quantifying v f) r.zero r.one r.any
+pub three_recalled : {t t' : Table} {v : Level} {f : ℕ} {h : Funs} {r : Trio} → MeantThree t v f h → Trebled t t' h r → Recalls t' (quantifying v.v f) r.zero r.one r.any
 three_recalled {t} {t'} {v} {f} {h} {r} m x =
     let same = den_extends t x.added.began t' x.added.extends f m.used in
     let longer = x.added.extends.longer in
     let u = m.used in
-    let q : Quantified t' v f r.zero r.one r.any = record {
+    let q : Quantified t' v.v f r.zero r.one r.any = record {
       operand = omega arith;
-      zero = x.zero.1 ∙ m.zero ∙ ap (fixed v false) (sym same);
-      one = x.one.1 ∙ m.one ∙ ap (fixed v true) (sym same);
-      any = x.any.1 ∙ m.any ∙ ap (exists v) (sym same);
+      zero = x.zero.1 ∙ m.zero ∙ ap (fixed v.v false) (sym same);
+      one = x.one.1 ∙ m.one ∙ ap (fixed v.v true) (sym same);
+      any = x.any.1 ∙ m.any ∙ ap (exists v.v) (sym same);
     } in
     record {
       left = x.zero.0;
       right = x.one.0;
       found = x.any.0;
       stands = λ h. absurd (omega arith);
-      quantified = λ h. subst₂ (λ (w k : ℕ). Quantified t' w k r.zero r.one r.any) (sym (asked_level v f m.in_range)) (sym (asked_entry v f m.in_range)) q;
+      quantified = λ h. subst₂ (λ (w k : ℕ). Quantified t' w k r.zero r.one r.any) (sym (asked_level v.v f v.fits)) (sym (asked_entry v.v f v.fits)) q;
     }
 
 -- ---- the results of ∃v F
@@ -250,16 +251,16 @@ module _ (v : ℕ) (F : Fun) where
 
 -- ---- an entry that does not read v, or has it on top
 
-module _ {t : Table} {v f : ℕ} (ok : Quantifiable t v f) where
+module _ {t : Table} {v f : ℕ} (wf : WellFormed t) (used : f < t.used) where
   pub settle_deeper : v < level_of t f → Trebled t t (results_of v (den t f)) (record { zero = f; one = f; any = f })
   unfolding fixed
   settle_deeper h =
-      let at : (b : Bool) → den t f ≡ fixed v b (den t f) = λ b. fun_ext (λ a. sym (from_put (den_from t ok.formed f ok.used) h b a)) in
+      let at : (b : Bool) → den t f ≡ fixed v b (den t f) = λ b. fun_ext (λ a. sym (from_put (den_from t wf f used) h b a)) in
       record {
-        added = added_none t (listed (results_of v (den t f))) ok.formed;
-        zero = (ok.used, at false);
-        one = (ok.used, at true);
-        any = (ok.used, exists_same v (den t f) (at false) (at true));
+        added = added_none t (listed (results_of v (den t f))) wf;
+        zero = (used, at false);
+        one = (used, at true);
+        any = (used, exists_same v (den t f) (at false) (at true));
       }
 
   module _ {z w : ℕ} (low : Cofactor t f v false z) (high : Cofactor t f v true w) where
@@ -274,16 +275,16 @@ module _ {t : Table} {v f : ℕ} (ok : Quantifiable t v f) where
     pub settle_joined : {t' : Table} {i : ℕ} → Built t t' (operation Or (den t z) (den t w)) i
         → Trebled t t' (results_of v (den t f)) (record { zero = z; one = w; any = i })
     settle_joined b =
-        let kept = entry_kept ok.formed b.grown.extends in
+        let kept = entry_kept wf b.grown.extends in
         record {
-          added = added_within settle_within (grows_built ok.formed b).added;
+          added = added_within settle_within (grows_built wf b).added;
           zero = kept z (fixed v false (den t f)) (low.used, low.stands);
           one = kept w (fixed v true (den t f)) (high.used, high.stands);
           any = (b.found, b.stands ∙ settle_fun);
         }
 
     pub settle_lacks : {t' : Table} → Short t t' (operation Or (den t z) (den t w)) → Lacks t t' (listed (results_of v (den t f)))
-    settle_lacks x = lacks_within settle_within (lacks_short ok.formed x)
+    settle_lacks x = lacks_within settle_within (lacks_short wf x)
 
 -- ---- the recursion
 
@@ -307,27 +308,31 @@ trebled_same : {t t' : Table} {g h : Funs} (r : Trio) → g ≡ h → Trebled t 
 trebled_same {t} {t'} r e = subst (λ (k : Funs). Trebled t t' k r) e
 
 -- the results that the memory has
-pub quantify_recalled : {t : Table} {v f : ℕ} → Quantifiable t v f → (memo : List ℕ) → Remembered t memo → (r : Trio) → RecalledThree memo (quantifying v f) (Some r)
-    → Trebled t t (results_of v (den t f)) r
-quantify_recalled {t} {v} {f} ok memo m r h =
-    let x = recalls t memo (quantifying v f) r.zero r.one r.any m h in
-    let q = subst₂ (λ (w k : ℕ). Quantified t w k r.zero r.one r.any) (asked_level v f ok.in_range) (asked_entry v f ok.in_range) (x.quantified (omega arith)) in
+pub quantify_recalled : {t : Table} (v : Level) (f : ℕ) → WellFormed t → (memo : List ℕ) → Remembered t memo → (r : Trio) → RecalledThree memo (quantifying v.v f) (Some r)
+    → Trebled t t (results_of v.v (den t f)) r
+quantify_recalled {t} v f wf memo m r h =
+    let x = recalls t memo (quantifying v.v f) r.zero r.one r.any m h in
+    let q = subst₂ (λ (w k : ℕ). Quantified t w k r.zero r.one r.any) (asked_level v.v f v.fits) (asked_entry v.v f v.fits) (x.quantified (omega arith)) in
     record {
-      added = added_none t (listed (results_of v (den t f))) ok.formed;
+      added = added_none t (listed (results_of v.v (den t f))) wf;
       zero = (x.left, q.zero);
       one = (x.right, q.one);
       any = (x.found, q.any);
     }
 
 -- entry f has a level l above v, and f0 and f1 are f with l fixed to each bit
-pub record Above (t : Table) (v f l f0 f1 : ℕ) : Type 0 where
-  pub ok : Quantifiable t v f
+pub record Above (t : Table) (v : Level) (f l f0 f1 : ℕ) : Type 0 where
+  pub formed : WellFormed t
+  pub used : f < t.used
   pub top : l ≡ level_of t f
-  pub above : l < v
+  pub above : l < v.v
   pub low : Cofactor t f l false f0
   pub high : Cofactor t f l true f1
 
-module _ {t : Table} {v f l f0 f1 : ℕ} (sp : Above t v f l f0 f1) where
+module _ {t : Table} {m : Level} {f l f0 f1 : ℕ} (sp : Above t m f l f0 f1) where
+  abbrev v : ℕ
+  v = m.v
+
   abbrev H : Funs
   H = results_of v (den t f)
 
@@ -335,10 +340,10 @@ module _ {t : Table} {v f l f0 f1 : ℕ} (sp : Above t v f l f0 f1) where
   differ e = let a = sp.above in omega arith
 
   in_range : l ≤ last_level
-  in_range = let a = sp.ok.in_range in let b = sp.above in omega arith
+  in_range = let a = m.fits in let b = sp.above in omega arith
 
   from : From l (den t f)
-  from = subst (λ (k : ℕ). From k (den t f)) (sym sp.top) (den_from t sp.ok.formed f sp.ok.used)
+  from = subst (λ (k : ℕ). From k (den t f)) (sym sp.top) (den_from t sp.formed f sp.used)
 
   within_low : Within (listed (results_of v (den t f0))) (listed H)
   within_low = subst (λ (F : Fun). Within (listed (results_of v F)) (listed H)) (sym sp.low.stands) (within_fixed v (den t f) l differ false from)
@@ -348,7 +353,7 @@ module _ {t : Table} {v f l f0 f1 : ℕ} (sp : Above t v f l f0 f1) where
 
   module _ {t₁ : Table} {a : Trio} (first : Trebled t t₁ (results_of v (den t f0)) a) where
     high_same : den t₁ f1 ≡ fixed l true (den t f)
-    high_same = den_extends t sp.ok.formed t₁ first.added.extends f1 sp.high.used ∙ sp.high.stands
+    high_same = den_extends t sp.formed t₁ first.added.extends f1 sp.high.used ∙ sp.high.stands
 
     within_high : Within (listed (results_of v (den t₁ f1))) (listed H)
     within_high = subst (λ (F : Fun). Within (listed (results_of v F)) (listed H)) (sym high_same) (within_fixed v (den t f) l differ true from)
@@ -414,13 +419,12 @@ module _ {t : Table} {v f l f0 f1 : ℕ} (sp : Above t v f l f0 f1) where
       added_2 = added_then within_low within_high first.added second.added
 
       -- so they may be remembered
-      pub quantify_meant : MeantThree t₂ v f (node_funs t₂ l a b)
+      pub quantify_meant : MeantThree t₂ m f (node_funs t₂ l a b)
       quantify_meant =
-          let same = den_extends t sp.ok.formed t₂ added_2.extends f sp.ok.used in
+          let same = den_extends t sp.formed t₂ added_2.extends f sp.used in
           let longer = added_2.extends.longer in
-          let u = sp.ok.used in
+          let u = sp.used in
           record {
-            in_range = sp.ok.in_range;
             used = omega arith;
             zero = ap (λ (h : Funs). h.zero) same_funs ∙ ap (fixed v false) (sym same);
             one = ap (λ (h : Funs). h.one) same_funs ∙ ap (fixed v true) (sym same);

@@ -1,13 +1,14 @@
 // ∧, ∨, ¬ and fixing a level by one recursion over the entries of the operands.
 ghost use Rattle.std.specs.Prelude.{◌≡◌, false, true, ◌≤◌, ◌<◌};
 ghost use Rattle.nodes.specs.Fun.{negated};
-ghost use Rattle.nodes.specs.internal.Operate.{operation, number_of, turns_of, key_of, IsOperation, Operands, junction, SettlesBy, Settles, Cofactor, Meant};
-ghost use Rattle.nodes.specs.Table.{last_level, level_of, den};
+ghost use Rattle.nodes.specs.internal.Operate.{operation, number_of, turns_of, key_of, junction, SettlesBy, Settles, Cofactor, Meant};
+ghost use Rattle.nodes.specs.Table.{level_of, den};
 ghost use Rattle.nodes.specs.internal.Make.{Makeable, node_fun};
 ghost use Rattle.nodes.specs.internal.Lent.{table_of, entering, leaving};
 ghost use Rattle.nodes.specs.internal.Work.{Operating};
 
 use super::computed::{Key, Slot, remember};
+use super::levels::Level;
 use super::limits::MAX_LENGTH;
 use super::manager::{Full, Manager};
 use super::unique::Node;
@@ -18,26 +19,24 @@ pub enum Operation {
     And,
     Or,
     Not,
-    Fix(u8, bool),
+    Fix(Level, bool),
 }
 
 impl Operation {
     // Its number in the memory of results.
     fn number(self) -> u32
-        requires { IsOperation self }
         ensures { result ≡ number_of self }
     {
         match self {
             Operation::And => 0,
             Operation::Or => 1,
             Operation::Not => 2,
-            Operation::Fix(v, b) => 3 + 2 * (v as u32) + (b as u32),
+            Operation::Fix(v, b) => 3 + 2 * (v.v as u32) + (b as u32),
         }
     }
 
     // The key of its result: ∧ and ∨ have their operands by their numbers, the smaller one first.
     fn key(self, f: u32, g: u32) -> Key
-        requires { IsOperation self }
         ensures { result ≡ key_of (number_of self) f g }
     {
         let (left, right) = match self {
@@ -103,14 +102,14 @@ impl<'packed, 'high, 'work> Manager<'packed, 'high, 'work> {
     }
 
     // f with level v, at most its own, fixed to each bit.
-    pub(crate) fn cofactors(&self, v: u8, f: u32) -> Cofactors
-        requires { (f < self.now.used) × (v ≤ last_level) × (v ≤ level_of (table_of self.now) f) }
-        ensures low { Cofactor (table_of self.now) f v false result.low }
-        ensures high { Cofactor (table_of self.now) f v true result.high }
+    pub(crate) fn cofactors(&self, v: Level, f: u32) -> Cofactors
+        requires { (f < self.now.used) × (v.v ≤ level_of (table_of self.now) f) }
+        ensures low { Cofactor (table_of self.now) f v.v false result.low }
+        ensures high { Cofactor (table_of self.now) f v.v true result.high }
     {
         let at = f as usize;
         let word = self.packed[at];
-        if word / MAX_LENGTH == v as u32 {
+        if word / MAX_LENGTH == v.v as u32 {
             Cofactors {
                 low: word % MAX_LENGTH,
                 high: self.high[at],
@@ -121,11 +120,11 @@ impl<'packed, 'high, 'work> Manager<'packed, 'high, 'work> {
     }
 
     // f with level v fixed to b, where v is at most f's own.
-    fn settle_fix(&self, v: u8, b: bool, f: u32) -> Option<u32>
-        requires { (f < self.now.used) × (v ≤ last_level) }
+    fn settle_fix(&self, v: Level, b: bool, f: u32) -> Option<u32>
+        requires { f < self.now.used }
         ensures { Settles (table_of self.now) (Operation.Fix v b) f f result }
     {
-        if self.level(f) < v {
+        if self.level(f) < v.v {
             return None;
         }
         let c = self.cofactors(v, f);
@@ -137,7 +136,7 @@ impl<'packed, 'high, 'work> Manager<'packed, 'high, 'work> {
 
     // The answer where it is an entry at hand.
     fn settle(&self, op: Operation, f: u32, g: u32) -> Option<u32>
-        requires { Operands (table_of self.now) op f g }
+        requires { (f < self.now.used) × (g < self.now.used) }
         ensures { Settles (table_of self.now) op f g result }
     {
         match op {
@@ -167,7 +166,7 @@ impl<'packed, 'high, 'work> Manager<'packed, 'high, 'work> {
 
     // The entry of the result of an operation on what f and g stand for.
     pub fn operate(&mut self, op: Operation, f: u32, g: u32) -> Result<u32, Full>
-        requires { Operands (table_of self.old) op f g }
+        requires { (f < self.old.used) × (g < self.old.used) }
         ensures { Operating (entering self.old) (leaving self.new result) (operation op (den (table_of self.old) f) (den (table_of self.old) g)) result }
     {
         if let Some(k) = self.settle(op, f, g) {
@@ -179,8 +178,9 @@ impl<'packed, 'high, 'work> Manager<'packed, 'high, 'work> {
             return Ok(k);
         }
         let level = self.level(f).min(self.level(g));
-        let x = self.cofactors(level, f);
-        let y = self.cofactors(level, g);
+        let v = Level { v: level };
+        let x = self.cofactors(v, f);
+        let y = self.cofactors(v, g);
         let low = self.operate(op, x.low, y.low)?;
         let high = self.operate(op, x.high, y.high)?;
         self.finish(Node { level, low, high }, s, key)

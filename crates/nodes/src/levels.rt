@@ -1,8 +1,15 @@
-// The levels at which a number's digits stand.
+// Levels of nodes, and those at which a number's digits stand.
 ghost use Rattle.std.specs.Prelude.{◌≡◌, ◌+◌, ◌-◌, ◌*◌, ◌≤◌, ◌<◌};
 ghost use Rattle.nodes.specs.Table.{last_level};
 ghost use Rattle.nodes.specs.Formula.{bit};
 ghost use Rattle.nodes.specs.internal.Spaced.{Spaced};
+
+// A level that a node may have.
+#[derive(Clone, Copy)]
+pub struct Level {
+    pub v: u8,
+    pub ghost fits: { v ≤ last_level },
+}
 
 // So many levels of nodes, the first one and others behind it that are `apart` from each other: where the digits of a number stand, the lowest first.
 #[derive(Clone, Copy)]
@@ -15,11 +22,13 @@ pub struct Levels {
 
 impl Levels {
     // The one that digit k stands at.
-    pub(crate) fn at(self, k: u8) -> u8
+    pub(crate) fn at(self, k: u8) -> Level
         requires { k < self.count }
-        ensures { (result ≡ self.first + k * self.apart) × (result ≤ last_level) }
+        ensures { result.v ≡ self.first + k * self.apart }
     {
-        self.first + k * self.apart
+        Level {
+            v: self.first + k * self.apart,
+        }
     }
 
     // Those behind the first.

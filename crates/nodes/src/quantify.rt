@@ -3,12 +3,13 @@
 ghost use Rattle.std.specs.Prelude.{◌≡◌, ◌≤◌, ◌<◌};
 ghost use Rattle.nodes.specs.internal.Parts.{memo_in};
 ghost use Rattle.nodes.specs.internal.Operate.{last_number, quantifying};
-ghost use Rattle.nodes.specs.Table.{max_length, last_level, level_of, den};
+ghost use Rattle.nodes.specs.Table.{max_length, level_of, den};
 ghost use Rattle.nodes.specs.internal.Lent.{table_of, entering, leaving};
-ghost use Rattle.nodes.specs.internal.Quantify.{Quantifiable, MakeableThree, MeantThree, node_funs, results_of, RecalledThree, Trebling};
+ghost use Rattle.nodes.specs.internal.Quantify.{MakeableThree, MeantThree, node_funs, results_of, RecalledThree, Trebling};
 
 use super::apply::Operation;
 use super::computed::{Slot, remember};
+use super::levels::Level;
 use super::limits::{CONSTANT_LEVEL, LAST_LEVEL};
 use super::manager::{Full, Manager};
 use super::unique::Node;
@@ -28,18 +29,18 @@ const FIRST_NUMBER: u32 = 5 + 2 * (LAST_LEVEL as u32);
 const LEVELS_EACH: u32 = (CONSTANT_LEVEL as u32) + 1;
 
 // The number under which the memory has the results of ∃v f: no operation's.
-fn number_of(v: u8, f: u32) -> u32
-    requires { (v ≤ last_level) × (f < max_length) }
-    ensures { (result ≡ quantifying v f) × (result ≤ last_number) }
+fn number_of(v: Level, f: u32) -> u32
+    requires { f < max_length }
+    ensures { (result ≡ quantifying v.v f) × (result ≤ last_number) }
 {
-    FIRST_NUMBER + (v as u32) + f * LEVELS_EACH
+    FIRST_NUMBER + (v.v as u32) + f * LEVELS_EACH
 }
 
 impl<'packed, 'high, 'work> Manager<'packed, 'high, 'work> {
     // The results of ∃v f, where slot s of the memory has them.
-    fn recall_three(&self, s: usize, v: u8, f: u32) -> Option<Trio>
-        requires { (v ≤ last_level) × (f < max_length) }
-        ensures { RecalledThree (memo_in self.now.work.now) (quantifying v f) result }
+    fn recall_three(&self, s: usize, v: Level, f: u32) -> Option<Trio>
+        requires { f < max_length }
+        ensures { RecalledThree (memo_in self.now.work.now) (quantifying v.v f) result }
     {
         let held = self.held_in(s)?;
         if held.number == number_of(v, f) {
@@ -89,7 +90,7 @@ impl<'packed, 'high, 'work> Manager<'packed, 'high, 'work> {
         a: Trio,
         b: Trio,
         s: usize,
-        v: u8,
+        v: Level,
         f: u32,
     ) -> Result<Trio, Full>
         requires makeable { MakeableThree (table_of self.old) level a b }
@@ -108,12 +109,12 @@ impl<'packed, 'high, 'work> Manager<'packed, 'high, 'work> {
     }
 
     // The results of ∃v f, where f's level l is v or above it: f itself, or its children and their ∨.
-    fn settle_three(&mut self, v: u8, f: u32, l: u8) -> Result<Trio, Full>
-        requires quantifiable { Quantifiable (table_of self.old) v f }
-        requires top_level { (l ≡ level_of (table_of self.old) f) × (v ≤ l) }
-        ensures { Trebling (entering self.old) (leaving self.new result) (results_of v (den (table_of self.old) f)) result }
+    fn settle_three(&mut self, v: Level, f: u32, l: u8) -> Result<Trio, Full>
+        requires used { f < self.old.used }
+        requires top_level { (l ≡ level_of (table_of self.old) f) × (v.v ≤ l) }
+        ensures { Trebling (entering self.old) (leaving self.new result) (results_of v.v (den (table_of self.old) f)) result }
     {
-        if v < l {
+        if v.v < l {
             return Ok(Trio {
                 zero: f,
                 one: f,
@@ -130,19 +131,19 @@ impl<'packed, 'high, 'work> Manager<'packed, 'high, 'work> {
     }
 
     // The entries of what f stands for with level v fixed to 0, fixed to 1, and of ∃v.
-    pub(crate) fn quantify(&mut self, v: u8, f: u32) -> Result<Trio, Full>
-        requires { Quantifiable (table_of self.old) v f }
-        ensures { Trebling (entering self.old) (leaving self.new result) (results_of v (den (table_of self.old) f)) result }
+    pub(crate) fn quantify(&mut self, v: Level, f: u32) -> Result<Trio, Full>
+        requires { f < self.old.used }
+        ensures { Trebling (entering self.old) (leaving self.new result) (results_of v.v (den (table_of self.old) f)) result }
     {
         let l = self.level(f);
-        if v <= l {
+        if v.v <= l {
             return self.settle_three(v, f, l);
         }
-        let s = self.slot_for(v as u32, f, 0);
+        let s = self.slot_for(v.v as u32, f, 0);
         if let Some(r) = self.recall_three(s, v, f) {
             return Ok(r);
         }
-        let c = self.cofactors(l, f);
+        let c = self.cofactors(Level { v: l }, f);
         let a = self.quantify(v, c.low)?;
         let b = self.quantify(v, c.high)?;
         self.finish_three(l, a, b, s, v, f)

@@ -6,14 +6,14 @@ ghost use Rattle.nodes.specs.internal.Several.{some_from, renamed_from, Alike};
 ghost use Rattle.nodes.specs.internal.Lent.{entering, leaving, entry_of};
 ghost use Rattle.nodes.specs.internal.Work.{Maps};
 
-use super::levels::{Levels, digit_at};
+use super::levels::{Level, Levels, digit_at};
 use super::manager::{Full, Manager};
 
 impl<'packed, 'high, 'work> Manager<'packed, 'high, 'work> {
     // The entry of f with level v renamed to w: ∃v((v = w) ∧ f).
-    pub fn rename(&mut self, f: u32, v: u8, w: u8) -> Result<u32, Full>
-        requires { (v ≤ last_level) × (w ≤ last_level) × (v ≡ w → ⊥) }
-        ensures { Maps (entering self.old) (leaving self.new result) (renamed v w) f (entry_of result) }
+    pub fn rename(&mut self, f: u32, v: Level, w: Level) -> Result<u32, Full>
+        requires { v.v ≡ w.v → ⊥ }
+        ensures { Maps (entering self.old) (leaving self.new result) (renamed v.v w.v) f (entry_of result) }
     {
         if !self.are_used(f, f) {
             return Ok(f);
@@ -53,7 +53,7 @@ impl<'packed, 'high, 'work> Manager<'packed, 'high, 'work> {
     {
         let mut g = f;
         for v in 0..n {
-            g = self.fix(g, v, digit_at(c as u64, v))?;
+            g = self.fix(g, Level { v }, digit_at(c as u64, v))?;
         }
         Ok(g)
     }

@@ -1,20 +1,18 @@
 // Single functions, each with its own nodes alone.
-ghost use Rattle.std.specs.Prelude.{◌≡◌, ◌+◌, ◌≤◌, ◌<◌};
+ghost use Rattle.std.specs.Prelude.{◌≡◌, ◌+◌, ◌<◌};
 ghost use Rattle.nodes.specs.Fun.{same};
-ghost use Rattle.nodes.specs.Table.{last_level};
 ghost use Rattle.nodes.specs.internal.Single.{guarded, paired, Guards, number_is, number_below, numbers_same};
 ghost use Rattle.nodes.specs.internal.Spaced.{Spaced};
 ghost use Rattle.nodes.specs.internal.Lent.{entering, leaving, entry_of};
 ghost use Rattle.nodes.specs.internal.Work.{Lists};
 
-use super::levels::Levels;
+use super::levels::{Level, Levels};
 use super::manager::{Full, Manager};
 
 impl<'packed, 'high, 'work> Manager<'packed, 'high, 'work> {
     // f where level v is b, and false elsewhere.
-    fn guard(&mut self, v: u8, b: bool, f: u32) -> Result<u32, Full>
-        requires { v ≤ last_level }
-        ensures { Guards (entering self.old) (leaving self.new result) (v + 1) (guarded v b) f (entry_of result) }
+    fn guard(&mut self, v: Level, b: bool, f: u32) -> Result<u32, Full>
+        ensures { Guards (entering self.old) (leaving self.new result) (v.v + 1) (guarded v.v b) f (entry_of result) }
     {
         if b {
             self.node(v, 0, f)
@@ -24,9 +22,9 @@ impl<'packed, 'high, 'work> Manager<'packed, 'high, 'work> {
     }
 
     // f where levels v and w, v the lower one, are equal, and false elsewhere.
-    fn pair(&mut self, v: u8, w: u8, f: u32) -> Result<u32, Full>
-        requires { (v < w) × (w ≤ last_level) }
-        ensures { Guards (entering self.old) (leaving self.new result) (w + 1) (paired v w) f (entry_of result) }
+    fn pair(&mut self, v: Level, w: Level, f: u32) -> Result<u32, Full>
+        requires { v.v < w.v }
+        ensures { Guards (entering self.old) (leaving self.new result) (w.v + 1) (paired v.v w.v) f (entry_of result) }
     {
         let low = self.guard(w, false, f)?;
         let high = self.guard(w, true, f)?;
@@ -42,7 +40,8 @@ impl<'packed, 'high, 'work> Manager<'packed, 'high, 'work> {
             return Ok((code == 0) as u32);
         }
         let m = self.number_is(code / 2, levels.rest())?;
-        self.guard(levels.first, code % 2 == 1, m)
+        let v = Level { v: levels.first };
+        self.guard(v, code % 2 == 1, m)
     }
 
     // It is below n.
@@ -55,7 +54,8 @@ impl<'packed, 'high, 'work> Manager<'packed, 'high, 'work> {
         }
         let low = self.number_below(n / 2 + n % 2, levels.rest())?;
         let high = self.number_below(n / 2, levels.rest())?;
-        self.node(levels.first, low, high)
+        let v = Level { v: levels.first };
+        self.node(v, low, high)
     }
 
     // It is the number whose digits stand one level on.
@@ -66,16 +66,20 @@ impl<'packed, 'high, 'work> Manager<'packed, 'high, 'work> {
         let mut m = 1;
         for k in (0..levels.count).rev() {
             let v = levels.at(k);
-            m = self.pair(v, v + 1, m)?;
+            m = self.pair(v, Level { v: v.v + 1 }, m)?;
         }
         Ok(m)
     }
 
     // Level v = level w.
-    pub fn same(&mut self, v: u8, w: u8) -> Result<u32, Full>
-        requires { (v ≤ last_level) × (w ≤ last_level) × (v ≡ w → ⊥) }
-        ensures { Lists (entering self.old) (leaving self.new result) (same v w) (entry_of result) }
+    pub fn same(&mut self, v: Level, w: Level) -> Result<u32, Full>
+        requires { v.v ≡ w.v → ⊥ }
+        ensures { Lists (entering self.old) (leaving self.new result) (same v.v w.v) (entry_of result) }
     {
-        self.pair(v.min(w), v.max(w), 1)
+        if v.v < w.v {
+            self.pair(v, w, 1)
+        } else {
+            self.pair(w, v, 1)
+        }
     }
 }

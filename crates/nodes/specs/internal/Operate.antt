@@ -5,7 +5,7 @@ use Rattle.nodes.specs.declared.apply.Operation.TheVariants.{And, Or, Not, Fix}
 use Rattle.nodes.specs.declared.computed.Key.{Key}
 use Rattle.nodes.specs.declared.computed.Slot.{Slot}
 use Rattle.nodes.specs.Fun.{Fun, both, either, negated, fixed, exists, digit}
-use Rattle.nodes.specs.Table.{Table, last_level, constant_level, max_length, level_of, den, WellFormed}
+use Rattle.nodes.specs.Table.{Table, last_level, constant_level, max_length, level_of, den}
 use Rattle.nodes.specs.internal.Parts.{memory_at, links_in, heads_in, memo_in}
 use Rattle.nodes.specs.internal.Index.{Indexed}
 
@@ -14,21 +14,14 @@ abbrev pub operation : Operation → Fun → Fun → Fun
 operation And f g = both f g
 operation Or f g = either f g
 operation Not f g = negated f
-operation (Fix v b) f g = fixed v b f
-
--- the level that is fixed is one of a node
-abbrev pub IsOperation : Operation → Type 0
-IsOperation And = Unit {0}
-IsOperation Or = Unit {0}
-IsOperation Not = Unit {0}
-IsOperation (Fix v b) = v ≤ last_level
+operation (Fix v b) f g = fixed v.v b f
 
 -- its number in the memory of results
 abbrev pub number_of : Operation → ℕ
 number_of And = 0
 number_of Or = 1
 number_of Not = 2
-number_of (Fix v b) = 3 + 2 * v + digit b
+number_of (Fix v b) = 3 + 2 * v.v + digit b
 
 -- what a number stands for
 unfoldable pub numbered : ℕ → Fun → Fun → Fun
@@ -49,12 +42,6 @@ turns_of o f g = ltb o 2 && ltb g f
 abbrev pub key_of : ℕ → ℕ → ℕ → Key
 key_of o f g = record { number = o; left = cond (turns_of o f g) g f; right = cond (turns_of o f g) f g }
 
-pub record Operands (t : Table) (o : Operation) (f g : ℕ) : Type 0 where
-  pub formed : WellFormed t
-  pub known : IsOperation o
-  pub left : f < t.used
-  pub right : g < t.used
-
 -- ∨ and ∧, by the constant that decides them
 abbrev pub junction : Bool → Fun → Fun → Fun
 junction true f g = either f g
@@ -70,7 +57,7 @@ abbrev pub IsAbove : Table → Operation → ℕ → Type 0
 IsAbove t And f = Unit {0}
 IsAbove t Or f = Unit {0}
 IsAbove t Not f = Unit {0}
-IsAbove t (Fix v b) f = level_of t f < v
+IsAbove t (Fix v b) f = level_of t f < v.v
 
 -- the answer is an entry at hand; or f is a node, and above the level that is to be fixed
 abbrev pub Settles : Table → Operation → ℕ → ℕ → Option ℕ → Type 0

@@ -1,9 +1,10 @@
 -- ∃ of a level by one recursion, which works out its three functions at a time. Assumes nothing.
-use Rattle.std.specs.Prelude.{◌≡◌, true, false, List, [], ◌∷◌, ℕ, ◌≤◌, ◌<◌, Option, Some, None, Result, Ok, Err}
+use Rattle.std.specs.Prelude.{◌≡◌, true, false, List, [], ◌∷◌, ℕ, ◌<◌, Option, Some, None, Result, Ok, Err}
+use Rattle.nodes.specs.declared.levels.Level.{Level}
 use Rattle.nodes.specs.declared.manager.Full.{Full}
 use Rattle.nodes.specs.declared.quantify.Trio.{Trio}
 use Rattle.nodes.specs.Fun.{Fun, fixed, exists}
-use Rattle.nodes.specs.Table.{Table, last_level, den, Entry, WellFormed}
+use Rattle.nodes.specs.Table.{Table, den, Entry}
 use Rattle.nodes.specs.internal.Make.{Makeable, node_fun}
 use Rattle.nodes.specs.internal.Operate.{Holds}
 use Rattle.nodes.specs.internal.Work.{Added, Lacks, Store, Keeps}
@@ -28,12 +29,6 @@ pub record Trebled (t t' : Table) (h : Funs) (r : Trio) : Type 0 where
   pub one : Entry t' r.one h.one
   pub any : Entry t' r.any h.any
 
--- level v of entry f may be quantified
-pub record Quantifiable (t : Table) (v f : ℕ) : Type 0 where
-  pub formed : WellFormed t
-  pub in_range : v ≤ last_level
-  pub used : f < t.used
-
 -- three nodes of level v would be in order
 pub record MakeableThree (t : Table) (v : ℕ) (a b : Trio) : Type 0 where
   pub zero : Makeable t v a.zero b.zero
@@ -53,12 +48,11 @@ RecalledThree memo o (Some r) = Holds memo o r.zero r.one r.any
 RecalledThree memo o None = Unit {0}
 
 -- the three functions are what ∃v of f's function lists
-pub record MeantThree (t : Table) (v f : ℕ) (h : Funs) : Type 0 where
-  pub in_range : v ≤ last_level
+pub record MeantThree (t : Table) (v : Level) (f : ℕ) (h : Funs) : Type 0 where
   pub used : f < t.used
-  pub zero : h.zero ≡ fixed v false (den t f)
-  pub one : h.one ≡ fixed v true (den t f)
-  pub any : h.any ≡ exists v (den t f)
+  pub zero : h.zero ≡ fixed v.v false (den t f)
+  pub one : h.one ≡ fixed v.v true (den t f)
+  pub any : h.any ≡ exists v.v (den t f)
 
 -- ---- what a call ensures, from s to s'
 

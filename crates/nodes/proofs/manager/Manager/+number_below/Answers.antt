@@ -22,8 +22,8 @@ returns-in_err-high t c =
     stopped_lists c.number_below-2.new.self r.result r.ensures.0
     (lists_chosen a.levels c.rest.result c.rest-2.result c.if-levels-eq0.false c.rest.ensures c.rest-2.ensures a.n c.in_ok-low.ensures c.in_err-high.ensures (full_chooses refl))
 
-pub node-requires : goal.node-requires
-node-requires t c = first_fits c.args.levels c.if-levels-eq0.false
+pub invariant_of-v : goal.invariant_of-v
+invariant_of-v t c = record { fits = first_fits c.args.levels c.if-levels-eq0.false }
 
 pub returns : goal.returns
 returns t c =

@@ -15,7 +15,7 @@ returns-in-Some-recall u c =
     let m = a.self.now in
     record {
       kept = keeps_none;
-      answers = operate_recalled c.requires c.key-key.result c.key-key.ensures
+      answers = operate_recalled a.op (record { formed = m.formed; left = c.requires.0; right = c.requires.1 }) c.key-key.result c.key-key.ensures
           (memo_in m.work.now) m.helping.remembered c.in-Some-recall.k c.in-Some-recall.ensures;
     }
 
@@ -23,7 +23,7 @@ returns-in-Some-recall u c =
 opened : {u : ℕ} (c : After-cofactors-y u)
     → Open (table_of c.args.self.now) c.args.op c.args.f c.args.g c.min-level.result c.cofactors-x.result c.cofactors-y.result c.key-key.result
 opened c = let a = c.args in record {
-  ok = c.requires;
+  ok = record { formed = a.self.now.formed; left = c.requires.0; right = c.requires.1 };
   settles = c.in_default.ensures;
   top = c.min-level.ensures ∙ ap₂ min c.level.ensures c.level-2.ensures;
   low_left = c.cofactors-x.ensures.low;

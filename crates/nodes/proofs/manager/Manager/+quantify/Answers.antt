@@ -10,11 +10,11 @@ use Rattle.nodes.proofs.manager.Manager.+quantify.Goals.{After-cofactors-c}
 pub returns-in-Some : goal.returns-in-Some
 returns-in-Some u c =
     let m = c.args.self.now in
-    record { kept = keeps_none; answers = quantify_recalled c.requires (memo_in m.work.now) m.helping.remembered c.in-Some.r c.in-Some.ensures }
+    record { kept = keeps_none; answers = quantify_recalled c.args.v c.args.f m.formed (memo_in m.work.now) m.helping.remembered c.in-Some.r c.in-Some.ensures }
 
 -- what is known before the calls on itself
 above : {u : ℕ} (c : After-cofactors-c u) → Above (table_of c.args.self.now) c.args.v c.args.f c.level-l.result c.cofactors-c.result.low c.cofactors-c.result.high
-above c = record { ok = c.requires; top = c.level-l.ensures; above = c.if-v-l.false; low = c.cofactors-c.ensures.low; high = c.cofactors-c.ensures.high }
+above c = record { formed = c.args.self.now.formed; used = c.requires; top = c.level-l.ensures; above = c.if-v-l.false; low = c.cofactors-c.ensures.low; high = c.cofactors-c.ensures.high }
 
 pub returns-in_err-a : goal.returns-in_err-a
 returns-in_err-a u c =

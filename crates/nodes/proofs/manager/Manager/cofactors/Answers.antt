@@ -13,20 +13,20 @@ bounds-self-at c = let m = c.args.self.now in (entry_inside _ m.high.now _ m.for
 pub returns-then-word-v-clause-low : goal.returns-then-word-v-clause-low
 returns-then-word-v-clause-low c =
     let a = c.args in
-    subst (Cofactor (table_of a.self.now) a.f a.v false) (low_at a.self.now.packed.now a.f)
-    (cofactor_child _ a.self.now.formed _ _ c.requires.0 c.requires.1 false (level_at a.self.now.packed.now a.f ∙ c.if-word-v.true))
+    subst (Cofactor (table_of a.self.now) a.f a.v.v false) (low_at a.self.now.packed.now a.f)
+    (cofactor_child _ a.self.now.formed _ _ c.requires.0 a.v.fits false (level_at a.self.now.packed.now a.f ∙ c.if-word-v.true))
 
 pub returns-then-word-v-clause-high : goal.returns-then-word-v-clause-high
 returns-then-word-v-clause-high c =
     let a = c.args in
-    cofactor_child _ a.self.now.formed _ _ c.requires.0 c.requires.1 true (level_at a.self.now.packed.now a.f ∙ c.if-word-v.true)
+    cofactor_child _ a.self.now.formed _ _ c.requires.0 a.v.fits true (level_at a.self.now.packed.now a.f ∙ c.if-word-v.true)
 
 pub returns-else-word-v-clause-low : goal.returns-else-word-v-clause-low
 returns-else-word-v-clause-low c =
     let a = c.args in
-    cofactor_same _ a.self.now.formed _ _ c.requires.0 c.requires.1 false c.requires.2 (λ e. c.if-word-v.false (sym (level_at a.self.now.packed.now a.f) ∙ e))
+    cofactor_same _ a.self.now.formed _ _ c.requires.0 a.v.fits false c.requires.1 (λ e. c.if-word-v.false (sym (level_at a.self.now.packed.now a.f) ∙ e))
 
 pub returns-else-word-v-clause-high : goal.returns-else-word-v-clause-high
 returns-else-word-v-clause-high c =
     let a = c.args in
-    cofactor_same _ a.self.now.formed _ _ c.requires.0 c.requires.1 true c.requires.2 (λ e. c.if-word-v.false (sym (level_at a.self.now.packed.now a.f) ∙ e))
+    cofactor_same _ a.self.now.formed _ _ c.requires.0 a.v.fits true c.requires.1 (λ e. c.if-word-v.false (sym (level_at a.self.now.packed.now a.f) ∙ e))

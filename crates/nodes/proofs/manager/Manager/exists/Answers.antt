@@ -10,9 +10,9 @@ pub returns-in_err-r : goal.returns-in_err-r
 returns-in_err-r c =
     let a = c.args in
     let r = c.from_residual in
-    stopped_maps c.quantify.new.self r.result r.ensures.0 refl (maps_exists a.v a.f (Err c.in_err-r.field-0.0) refl refl (used_both (sym c.are_used.ensures ∙ c.if-not-are_used.false)).0 c.in_err-r.ensures)
+    stopped_maps c.quantify.new.self r.result r.ensures.0 refl (maps_exists a.v.v a.f (Err c.in_err-r.field-0.0) refl refl (used_both (sym c.are_used.ensures ∙ c.if-not-are_used.false)).0 c.in_err-r.ensures)
 
 pub returns : goal.returns
 returns c =
     let a = c.args in
-    maps_exists a.v a.f (Ok c.in_ok-r.r) refl refl (used_both (sym c.are_used.ensures ∙ c.if-not-are_used.false)).0 c.in_ok-r.ensures
+    maps_exists a.v.v a.f (Ok c.in_ok-r.r) refl refl (used_both (sym c.are_used.ensures ∙ c.if-not-are_used.false)).0 c.in_ok-r.ensures

@@ -13,12 +13,12 @@ returns-in_err-g c =
     let r = c.from_residual in
     stopped_maps c.exists.new.self r.result r.ensures.0 refl
     (some_full n.first n.apart refl n.count (k - 1) (omega (arith, c.loop-k.auto.k))
-    (some_down n.first n.apart n.count k c.loop-k-test.true c.loop-k.auto.k c.at.ensures.0 c.loop-k.invariant c.in_err-g.ensures))
+    (some_down n.first n.apart n.count k c.loop-k-test.true c.loop-k.auto.k c.at.ensures c.loop-k.invariant c.in_err-g.ensures))
 
 pub loop-k-preserved : goal.loop-k-preserved
 loop-k-preserved c =
     let n = c.args.levels in
-    some_down n.first n.apart n.count c.loop-k.k c.loop-k-test.true c.loop-k.auto.k c.at.ensures.0 c.loop-k.invariant c.in_ok-g.ensures
+    some_down n.first n.apart n.count c.loop-k.k c.loop-k-test.true c.loop-k.auto.k c.at.ensures c.loop-k.invariant c.in_ok-g.ensures
 
 pub returns : goal.returns
 returns c = let n = c.args.levels in some_done n.first n.apart n.count c.loop-k.k (omega (arith, c.loop-k-test.false)) c.loop-k.invariant

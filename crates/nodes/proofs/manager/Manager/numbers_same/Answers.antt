@@ -18,12 +18,12 @@ returns-in_err-m c =
     let r = c.from_residual in
     stopped_lists c.pair.new.self r.result r.ensures.0
     (same_full n.first n.apart c.requires.apart refl n.count (k - 1) (omega (arith, c.loop-k.auto.k))
-    (same_down n.first n.apart c.requires.apart n.count k c.loop-k-test.true c.loop-k.auto.k c.at-v.ensures.0 c.loop-k.invariant c.in_err-m.ensures))
+    (same_down n.first n.apart c.requires.apart n.count k c.loop-k-test.true c.loop-k.auto.k c.at-v.ensures c.loop-k.invariant c.in_err-m.ensures))
 
 pub loop-k-preserved : goal.loop-k-preserved
 loop-k-preserved c =
     let n = c.args.levels in
-    same_down n.first n.apart c.requires.apart n.count c.loop-k.k c.loop-k-test.true c.loop-k.auto.k c.at-v.ensures.0 c.loop-k.invariant c.in_ok-m.ensures
+    same_down n.first n.apart c.requires.apart n.count c.loop-k.k c.loop-k-test.true c.loop-k.auto.k c.at-v.ensures c.loop-k.invariant c.in_ok-m.ensures
 
 pub returns : goal.returns
 returns c =

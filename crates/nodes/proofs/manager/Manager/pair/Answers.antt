@@ -8,13 +8,13 @@ pub returns-in_err-low : goal.returns-in_err-low
 returns-in_err-low c =
     let r = c.from_residual in
     stopped_guards c.guard.new.self r.result r.ensures.0
-    (pairs c.args.v c.args.w {j = 0} c.requires.0 c.in_err-low.ensures (full_guards refl) (full_chooses refl))
+    (pairs c.args.v.v c.args.w.v {j = 0} c.requires c.in_err-low.ensures (full_guards refl) (full_chooses refl))
 
 pub returns-in_err-high : goal.returns-in_err-high
 returns-in_err-high c =
     let r = c.from_residual-in_err-high in
     stopped_guards c.guard-2.new.self r.result r.ensures.0
-    (pairs c.args.v c.args.w c.requires.0 c.in_ok-low.ensures c.in_err-high.ensures (full_chooses refl))
+    (pairs c.args.v.v c.args.w.v c.requires c.in_ok-low.ensures c.in_err-high.ensures (full_chooses refl))
 
 pub returns : goal.returns
-returns c = pairs c.args.v c.args.w c.requires.0 c.in_ok-low.ensures c.in_ok-high.ensures c.node.ensures
+returns c = pairs c.args.v.v c.args.w.v c.requires c.in_ok-low.ensures c.in_ok-high.ensures c.node.ensures

@@ -14,16 +14,16 @@ returns-in_err-g c =
     let r = c.from_residual in
     stopped_maps c.rename.new.self r.result r.ensures.0 refl
     (renamed_full n.first w n.apart refl n.count (k - 1) (omega (arith, c.loop-k.auto.k))
-    (renamed_down n.first w n.apart n.count k c.loop-k-test.true c.loop-k.auto.k c.at.ensures.0
-    (c.at-in-loop-k.ensures.0 ∙ ap (λ (a : ℕ). w + (k - 1) * a) c.requires.apart) c.loop-k.invariant c.in_err-g.ensures))
+    (renamed_down n.first w n.apart n.count k c.loop-k-test.true c.loop-k.auto.k c.at.ensures
+    (c.at-in-loop-k.ensures ∙ ap (λ (a : ℕ). w + (k - 1) * a) c.requires.apart) c.loop-k.invariant c.in_err-g.ensures))
 
 pub loop-k-preserved : goal.loop-k-preserved
 loop-k-preserved c =
     let n = c.args.from in
     let w = c.args.to.first in
     let k = c.loop-k.k in
-    renamed_down n.first w n.apart n.count k c.loop-k-test.true c.loop-k.auto.k c.at.ensures.0
-    (c.at-in-loop-k.ensures.0 ∙ ap (λ (a : ℕ). w + (k - 1) * a) c.requires.apart) c.loop-k.invariant c.in_ok-g.ensures
+    renamed_down n.first w n.apart n.count k c.loop-k-test.true c.loop-k.auto.k c.at.ensures
+    (c.at-in-loop-k.ensures ∙ ap (λ (a : ℕ). w + (k - 1) * a) c.requires.apart) c.loop-k.invariant c.in_ok-g.ensures
 
 pub returns : goal.returns
 returns c = let n = c.args.from in renamed_done n.first c.args.to.first n.apart n.count c.loop-k.k (omega (arith, c.loop-k-test.false)) c.loop-k.invariant
