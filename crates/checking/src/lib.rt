@@ -9,7 +9,7 @@ ghost use Rattle.checking.specs.Program.{round_limit, verdict_line, line_in, Pri
 use std::io::Read;
 use std::rt::Files;
 use std::{fmt, fs, io};
-use verdicts::answer::{CompareError, Comparison, Verdict};
+use verdicts::answer::{CompareError, Comparison, NEITHER, SPENT, Verdict};
 use verdicts::compare::compare;
 
 // The largest text: 64 lines of 255 bytes, two digits a byte, with their 0A.
@@ -22,7 +22,7 @@ const LENGTH: usize = 4096;
 const LIMIT: u64 = 1000000;
 
 // What the line of one mode says.
-// Kept: number and side of a refusal are what the line shows.
+// Kept: by numbers, as `line_in` is; `Spent` and `Refused(CompareError)` would leave the numbers to `fmt`, of which nothing is proved.
 #[derive(Clone, Copy)]
 pub enum Line {
     Equal { rounds: u64, nodes: u32 },
@@ -31,6 +31,7 @@ pub enum Line {
 }
 
 // What both lines say.
+// Kept: `Modes<Line>` would be the same two fields, in a name that says less.
 #[derive(Clone, Copy)]
 pub struct Lines {
     pub strong: Line,
@@ -47,42 +48,24 @@ impl fmt::Display for Line {
     }
 }
 
-// One read into buf from `done` on: how many bytes buf then has; all of it where the read fails.
-fn read_some<R: Read>(file: &mut R, buf: &mut [u8], done: usize) -> usize
-    requires { done ≤ length buf.old }
-    ensures { (done ≤ result) × (result ≤ length buf.old) }
-{
-    let most = buf.len();
-    match file.read(&mut buf[done..]) {
-        Ok(count) => done + count,
-        Err(_) => most,
-    }
-}
-
-// Reads to the input's end: how many bytes there are; the length of buf where they do not end before that, or a read fails.
-fn read_rest<R: Read>(file: &mut R, buf: &mut [u8]) -> usize
-    ensures { result ≤ length buf.old }
-{
+// Reads to the input's end: its bytes, if it ends before buf is full and no read fails.
+fn read_rest<'b, R: Read>(file: &mut R, buf: &'b mut [u8]) -> Option<&'b [u8]> {
     let mut done = 0;
-    // Kept: each read says how far the buffer is filled; there is nothing to count.
+    // Kept: `read_to_end`, which reads it all in one call, needs a heap.
     while done < buf.len() {
-        let next = read_some(file, buf, done);
-        if next == done {
-            return done;
+        let count = file.read(&mut buf[done..]).ok()?;
+        if count == 0 {
+            return Some(&buf[..done]);
         }
-        done = next;
+        done += count;
     }
-    done
+    None
 }
 
-// How many bytes a file has, which are then in buf; the length of buf where it has as many, or can't be read.
-fn read_file(rt: &impl Files, path: &str, buf: &mut [u8]) -> usize
-    ensures { result ≤ length buf.old }
-{
-    match fs::open(rt, path) {
-        Ok(mut file) => read_rest(&mut file, buf),
-        Err(_) => buf.len(),
-    }
+// A file's bytes, if it can be read and they are at most MAX_TEXT.
+fn text<'b>(rt: &impl Files, path: &str, buf: &'b mut [u8; MAX_TEXT + 1]) -> Option<&'b [u8]> {
+    let mut file = fs::open(rt, path).ok()?;
+    read_rest(&mut file, buf)
 }
 
 // What a verdict's line says, with the nodes of its comparison.
@@ -93,8 +76,8 @@ fn line_of(verdict: Verdict, nodes: u32) -> Line
         Verdict::Equal { rounds, .. } => Line::Equal { rounds, nodes },
         Verdict::Different { rounds } => Line::Different { rounds, nodes },
         Verdict::Spent => Line::Refused {
-            number: 9,
-            side: 2,
+            number: SPENT,
+            side: NEITHER,
             line: 0,
         },
     }
@@ -131,10 +114,9 @@ fn compare_within(left: &[u8], right: &[u8], limit: u64) -> Lines
     let mut low = [0u32; LENGTH];
     let mut high = [0u32; LENGTH];
     let mut work = [0u32; 4 * LENGTH];
-    let a = compare(
+    lines_of(compare(
         left, right, limit, &mut level, &mut low, &mut high, &mut work,
-    );
-    lines_of(a)
+    ))
 }
 
 // What the program prints of two texts.
@@ -145,8 +127,7 @@ fn compare_texts(left: &[u8], right: &[u8]) -> Lines
 }
 
 fn print_lines(rt: &impl Print, lines: Lines) -> io::Result<()> {
-    let strong = lines.strong;
-    let weak = lines.weak;
+    let Lines { strong, weak } = lines;
     println!(rt; "strong {strong}")?;
     println!(rt; "weak {weak}")
 }
@@ -163,15 +144,13 @@ pub fn print_within(rt: &impl Print, left: &[u8], right: &[u8], limit: u64) -> i
 
 // The program of document 01, in the current folder: a strong line, then a weak one; or which file could not be read.
 pub fn run(rt: &(impl Files + Print)) -> io::Result<()> {
-    let mut left = [0u8; 32705];
-    let mut right = [0u8; 32705];
-    let n = read_file(rt, "left.hex", &mut left);
-    if MAX_TEXT < n {
+    let mut left = [0u8; MAX_TEXT + 1];
+    let mut right = [0u8; MAX_TEXT + 1];
+    let Some(left) = text(rt, "left.hex", &mut left) else {
         return println!(rt; "no input left");
-    }
-    let m = read_file(rt, "right.hex", &mut right);
-    if MAX_TEXT < m {
+    };
+    let Some(right) = text(rt, "right.hex", &mut right) else {
         return println!(rt; "no input right");
-    }
-    print_texts(rt, &left[..n], &right[..m])
+    };
+    print_texts(rt, left, right)
 }

@@ -5,7 +5,6 @@ ghost use Rattle.nodes.specs.Lookup.{slices, table_fits, small, looked_up, walk_
 
 use super::levels::digit_at;
 use super::limits::{CODES, LAST_LEVEL, MAX_LENGTH};
-use std::fmt;
 
 // Document 01's slices of a table.
 #[derive(Clone, Copy)]
@@ -43,16 +42,6 @@ impl LookUpError {
             LookUpError::Table => 7,
             LookUpError::Outside => 10,
         }
-    }
-}
-
-impl fmt::Display for LookUpError {
-    fn fmt<W: fmt::Write>(&self, f: &mut fmt::Formatter<W>) -> fmt::Result {
-        let words = match self {
-            LookUpError::Table => "the table's slices don't fit",
-            LookUpError::Outside => "action or code out of range, or no entry of the table",
-        };
-        f.write_str(words)
     }
 }
 

@@ -1,2 +1,3 @@
 -- Laws that the functions' proofs cite.
 mod Describing
+mod Putting

@@ -3,19 +3,20 @@
 
 pub mod model;
 
-ghost use Rattle.std.specs.Prelude.{◌≡◌, ◌+◌, ◌≤◌, length};
+ghost use Rattle.std.specs.Prelude.{◌≡◌, ◌+◌, ◌≤◌, ℕ, ◌∷◌, [], length};
 ghost use Rattle.nodes.specs.Lookup.{slices, look_up};
 ghost use Rattle.verdicts.specs.Contract.{values_of_verdict};
 ghost use Rattle.seipolku.specs.Exported.{six, last_words, written, kind_of, Exported, numbered};
 
 use nodes::lookup::{Point, TableSlices, look_up};
-use verdicts::answer::{CompareError, Comparison, Nodes, Verdict};
+use verdicts::answer::{CompareError, Comparison, Nodes, SPENT, Verdict};
 use verdicts::compare::compare;
 
 // The words of an answer.
 const WORDS: usize = 12;
 
 // The three words of a verdict.
+// Kept: numbers, as the C interface has them.
 #[derive(Clone, Copy)]
 struct VerdictWords {
     number: u64,
@@ -24,16 +25,11 @@ struct VerdictWords {
 }
 
 // Writes six words, from the place `at` on.
-fn put(words: &mut [u64], at: usize, a: u64, b: u64, c: u64, d: u64, e: u64, f: u64)
+fn put(words: &mut [u64], at: usize, values: [u64; 6])
     requires { at + 6 ≤ length words.old }
-    ensures { words.new ≡ six words.old at a b c d e f }
+    ensures { (a b c d e f : ℕ) → values ≡ a ∷ b ∷ c ∷ d ∷ e ∷ f ∷ [] → words.new ≡ six words.old at a b c d e f }
 {
-    words[at] = a;
-    words[at + 1] = b;
-    words[at + 2] = c;
-    words[at + 3] = d;
-    words[at + 4] = e;
-    words[at + 5] = f;
+    words[at..at + 6].copy_from_slice(&values);
 }
 
 // Writes the last six of the twelve words: the two that are left of the weak verdict, and the nodes of the whole list, up to the relations, and
@@ -42,38 +38,34 @@ fn put_nodes(words: &mut [u64], rounds: u64, iterate: u64, nodes: Nodes)
     requires { 12 ≤ length words.old }
     ensures { words.new ≡ last_words words.old rounds iterate nodes }
 {
-    put(
-        words,
-        6,
-        rounds,
-        iterate,
-        nodes.whole as u64,
-        nodes.relations as u64,
-        nodes.answers as u64,
-        0,
-    );
+    let whole = nodes.whole as u64;
+    let relations = nodes.relations as u64;
+    let answers = nodes.answers as u64;
+    put(words, 6, [rounds, iterate, whole, relations, answers, 0]);
 }
 
 // A verdict's words, by its number and values.
-fn words_of(verdict: Verdict) -> VerdictWords
-    ensures { (result.number ≡ (values_of_verdict verdict).number) × (result.rounds ≡ (values_of_verdict verdict).rounds) × (result.iterate ≡ (values_of_verdict verdict).iterate) }
-{
-    match verdict {
-        Verdict::Equal { iterate, rounds } => VerdictWords {
-            number: 0,
-            rounds,
-            iterate: iterate as u64,
-        },
-        Verdict::Different { rounds } => VerdictWords {
-            number: 1,
-            rounds,
-            iterate: 0,
-        },
-        Verdict::Spent => VerdictWords {
-            number: 9,
-            rounds: 0,
-            iterate: 0,
-        },
+impl From<Verdict> for VerdictWords {
+    ghost from_gives = { λ v w. (w.number ≡ (values_of_verdict v).number) × (w.rounds ≡ (values_of_verdict v).rounds) × (w.iterate ≡ (values_of_verdict v).iterate) };
+
+    fn from(verdict: Verdict) -> VerdictWords {
+        match verdict {
+            Verdict::Equal { iterate, rounds } => VerdictWords {
+                number: 0,
+                rounds,
+                iterate: iterate as u64,
+            },
+            Verdict::Different { rounds } => VerdictWords {
+                number: 1,
+                rounds,
+                iterate: 0,
+            },
+            Verdict::Spent => VerdictWords {
+                number: SPENT as u64,
+                rounds: 0,
+                iterate: 0,
+            },
+        }
     }
 }
 
@@ -84,17 +76,14 @@ fn write(answer: Result<Comparison, CompareError>, words: &mut [u64]) -> u64
 {
     match answer {
         Ok(a) => {
-            let s = words_of(a.strong);
-            let w = words_of(a.weak);
+            let s = VerdictWords::from(a.strong);
+            let w = VerdictWords::from(a.weak);
+            let left = a.left as u64;
+            let right = a.right as u64;
             put(
                 words,
                 0,
-                a.left as u64,
-                a.right as u64,
-                s.number,
-                s.rounds,
-                s.iterate,
-                w.number,
+                [left, right, s.number, s.rounds, s.iterate, w.number],
             );
             put_nodes(words, w.rounds, w.iterate, a.nodes);
             0
@@ -103,12 +92,7 @@ fn write(answer: Result<Comparison, CompareError>, words: &mut [u64]) -> u64
             put(
                 words,
                 0,
-                e.number() as u64,
-                e.side() as u64,
-                e.line() as u64,
-                0,
-                0,
-                0,
+                [e.number() as u64, e.side() as u64, e.line() as u64, 0, 0, 0],
             );
             put_nodes(words, 0, 0, e.nodes());
             2
@@ -117,6 +101,7 @@ fn write(answer: Result<Comparison, CompareError>, words: &mut [u64]) -> u64
 }
 
 // Compares two models: 0 answered, 2 refused, with the answer's twelve words; 3 where answer has fewer, and then nothing is touched.
+// Kept: slices and numbers are the C interface.
 #[unsafe(no_mangle)]
 pub extern "C" fn seipolku_compare(
     left: &[u8],
@@ -138,6 +123,7 @@ pub extern "C" fn seipolku_compare(
 }
 
 // Looks a value up: 0 or 1, else 7 or 10.
+// Kept: slices and numbers are the C interface.
 #[unsafe(no_mangle)]
 pub extern "C" fn seipolku_look_up(
     level: &[u8],

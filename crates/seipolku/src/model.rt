@@ -16,17 +16,20 @@ fn write_model(s: Summary, words: &mut [u64])
     put(
         words,
         0,
-        last.bits as u64,
-        s.lines as u64,
-        last.uses as u64,
-        last.states as u64,
-        0,
-        0,
+        [
+            last.bits as u64,
+            s.lines as u64,
+            last.uses as u64,
+            last.states as u64,
+            0,
+            0,
+        ],
     );
 }
 
 // Tells what a text's model is: 0 accepted, with its bits, the text's lines, its leaf uses and states; 2 refused, with the words of a refusal;
 // 3 where answer has fewer than six words, and then nothing is touched.
+// Kept: slices and numbers are the C interface.
 #[unsafe(no_mangle)]
 pub extern "C" fn seipolku_model(text: &[u8], answer: &mut [u64]) -> u64
     ensures { Described text.now answer.old answer.new result }
@@ -43,12 +46,7 @@ pub extern "C" fn seipolku_model(text: &[u8], answer: &mut [u64]) -> u64
             put(
                 answer,
                 0,
-                e.refusal.number() as u64,
-                0,
-                e.line as u64,
-                0,
-                0,
-                0,
+                [e.refusal.number() as u64, 0, e.line as u64, 0, 0, 0],
             );
             2
         }

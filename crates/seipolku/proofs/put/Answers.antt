@@ -1,19 +1,11 @@
 -- `seipolku::put` meets its contract. Assumes nothing.
+use mathlib.Core.Path.{◌≡◌}
+use Prim.Native.Nat.{◌+◌, ◌-◌}
 use native.Mathlib.Omega.{arith}
-use lib.ListN.{length-set}
+use Rattle.seipolku.proofs.Putting.{at_once}
 use Rattle.seipolku.proofs.put.Goals as goal
 
-pub bounds-words-at-2 : goal.bounds-words-at-2
-bounds-words-at-2 c = simp length-set (omega arith)
-
-pub bounds-words-at-3 : goal.bounds-words-at-3
-bounds-words-at-3 c = simp length-set (omega arith)
-
-pub bounds-words-at-4 : goal.bounds-words-at-4
-bounds-words-at-4 c = simp length-set (omega arith)
-
-pub bounds-words-at-5 : goal.bounds-words-at-5
-bounds-words-at-5 c = simp length-set (omega arith)
-
-pub bounds-words-at-6 : goal.bounds-words-at-6
-bounds-words-at-6 c = simp length-set (omega arith)
+pub returns : goal.returns
+returns c u v w x y z e =
+    let six : c.args.at + 6 - c.args.at ≡ 6 = omega arith in
+    rw (six, c.copy_from_slice.ensures.after, e) (at_once c.args.at c.args.words.now u v w x y z c.requires)
