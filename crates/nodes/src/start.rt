@@ -46,7 +46,7 @@ impl<'packed, 'high, 'work> Manager<'packed, 'high, 'work> {
 }
 
 // Leaves a table in document 01's three slices: the levels of the entries in use go to `level`, and their low children stay in `low`.
-// Kept: three slices of one length are how document 01 and the C interface have a table.
+// Kept: a public function of any three slices, as document 01 has a table; as a method it would take the manager that holds two of them apart.
 #[tactic(auto, using(crate::proofs::Parting::levels_length, crate::proofs::Starting::unpacked_byte, crate::proofs::Starting::unpacked, crate::proofs::Starting::level_byte))]
 pub fn unpack(level: &mut [u8], low: &mut [u32], high: &[u32], used: u32)
     requires { Unpackable level.old low.old high.now used }

@@ -15,7 +15,7 @@ use super::work::{covered, covers, hash, hashes};
 
 // A node: its level, its low child and its high child.
 #[derive(Clone, Copy)]
-pub(crate) struct Node {
+pub struct Node {
     pub level: u8,
     pub low: u32,
     pub high: u32,
@@ -142,7 +142,7 @@ impl<'packed, 'high, 'work> Manager<'packed, 'high, 'work> {
 
     // The entry of the function that is the high child's where the node's level is true and the low child's elsewhere: a node is made only
     // where there is none.
-    pub(crate) fn make(&mut self, node: Node) -> Result<u32, Full>
+    pub fn make(&mut self, node: Node) -> Result<u32, Full>
         requires { Makeable (table_of self.old) node.level node.low node.high }
         ensures kept { Keeps (entering self.old) (leaving self.new result) }
         ensures makes { Makes (held_by self.old) (held_by self.new) (node_fun (table_of self.old) node.level node.low node.high) result }

@@ -23,6 +23,7 @@ store m full = record {
   formed = m.formed;
 }
 
+-- The next three are in the clauses of all calls: one name for them and each kind of contract together would be two dozen names more.
 -- the store that a call finds
 abbrev pub entering : Manager → Store
 entering m = store m false
