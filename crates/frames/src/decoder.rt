@@ -23,11 +23,13 @@ pub struct Decoder {
     pub bytes: [u8; MAX_BYTES],
 }
 
-// Whether any byte is no digit.
+// Whether any byte is no digit. It looks at all of them, so that many are looked at together; `any` stops at the first.
 fn has_stray(digits: &[u8]) -> bool
     ensures { result ≡ not (all is_hex digits.now) }
 {
-    digits.iter().any(|c| hex_value(*c).is_none())
+    digits
+        .iter()
+        .fold(false, |stray, c| stray | hex_value(*c).is_none())
 }
 
 // The value of the last digit where it is without its second.
