@@ -8,15 +8,15 @@
 
 pub mod apply;
 pub mod calls;
-mod computed;
+pub mod computed;
 pub mod levels;
 pub mod limits;
 pub mod lookup;
 pub mod manager;
-mod quantify;
+pub mod quantify;
 pub mod several;
 pub mod single;
 pub mod start;
 pub mod unique;
-mod work;
+pub mod work;
 pub mod zero;
