@@ -104,7 +104,7 @@ pub fn unpack(level: &mut [u8], low: &mut [u32], high: &[u32], used: u32)
     let n = low.len().min(used as usize);
     for i in 0..n {
         let word = low[i];
-        level[i] = (word / MAX_LENGTH).min(CONSTANT_LEVEL as u32) as u8;
+        level[i] = (word / MAX_LENGTH % 256) as u8; // a byte in any case
         low[i] = word % MAX_LENGTH;
     }
 }
