@@ -28,7 +28,8 @@ fn constants(packed: &mut [u32], high: &mut [u32])
 fn forget(work: &mut [u32])
     ensures { Forgets work.old work.new }
 {
-    for i in memory_at(work)..work.len() {
+    let first = memory_at(work);
+    for i in first..work.len() {
         work[i] = 0;
     }
 }
@@ -57,8 +58,8 @@ impl<'packed, 'high, 'work> Manager<'packed, 'high, 'work> {
         }
     }
 
-    // A table that stands in the slices, with so many entries in use and the work slice that serves it: so one goes on where another
-    // manager ended, whatever slices the caller lends then.
+    // A table that stands in the slices, with so many entries in use, and a work slice that serves it: so a caller goes on where another
+    // manager ended, with the same slices or with others that hold the same.
     pub fn resume(
         packed: &'packed mut [u32],
         high: &'high mut [u32],
@@ -77,7 +78,7 @@ impl<'packed, 'high, 'work> Manager<'packed, 'high, 'work> {
         }
     }
 
-    // The same where the work slice has an index of the table, and whatever it likes in the place of results, which are emptied.
+    // The same where `work` has an index of the table, and anything in the place of the results, which is emptied.
     pub fn with_index(
         packed: &'packed mut [u32],
         high: &'high mut [u32],
@@ -89,17 +90,12 @@ impl<'packed, 'high, 'work> Manager<'packed, 'high, 'work> {
         ensures { TakesIndex packed.entry high.entry work.entry used result }
     {
         forget(work);
-        Manager {
-            packed,
-            high,
-            work,
-            used,
-        }
+        Manager::resume(packed, high, work, used)
     }
 }
 
 // Leaves a table in document 01's three slices: the levels of the entries in use go to `level`, and their low children stay in `low`.
-// Of what is no table in order nothing is asked, nor promised: it writes no entry past the slices, and no level past the constants'.
+// Of other entries, or more than there are, nothing is asked, and nothing promised.
 // Kept: a public function of any three slices, as document 01 has a table; as a method it would take the manager that holds two of them apart.
 pub fn unpack(level: &mut [u8], low: &mut [u32], high: &[u32], used: u32)
     requires { length level.old ≡ length low.old }
@@ -108,7 +104,7 @@ pub fn unpack(level: &mut [u8], low: &mut [u32], high: &[u32], used: u32)
     let n = low.len().min(used as usize);
     for i in 0..n {
         let word = low[i];
-        level[i] = (word / MAX_LENGTH).min(CONSTANT_LEVEL as u32) as u8;
+        level[i] = (word / MAX_LENGTH % 256) as u8; // a byte in any case
         low[i] = word % MAX_LENGTH;
     }
 }

@@ -1,6 +1,6 @@
 -- `nodes::start::unpack` meets its contract. The loop's invariant: the entries passed are apart, if the table is in order, and the others as they were.
 -- Assumes nothing.
-use mathlib.Core.Path.{◌∙◌, subst}
+use mathlib.Core.Path.{◌≡◌, ◌∙◌, subst}
 use Prim.Native.Nat.{ℕ, ◌+◌, ◌%◌, ◌<◌}
 use native.Mathlib.Omega.{arith}
 use lib.ListN.{get_or, set}
@@ -19,7 +19,7 @@ loop-i-preserved c =
     let inside : l.i < used = omega (arith, c.loop-i-test.true, c.min-n.ensures) in
     let same = v.1 l.i (omega arith) in (
       λ wf. subst (λ (x : ℕ). Unpacks packed (l.i + 1) (set l.level l.i x) (set l.low l.i (get_or l.low l.i 0 % max_length)))
-          (omega (arith, c.min.ensures, unpacked_byte packed c.args.high.now l.low used l.i wf inside same))
+          (omega (arith, unpacked_byte packed c.args.high.now l.low used l.i wf inside same))
           (unpacked_next packed l.level l.low l.i (omega arith) (omega arith) same (v.0 wf)),
       λ k h. get_or-set_other l.low l.i k _ 0 (λ e. omega arith) ∙ v.1 k (omega arith),
     )
@@ -31,4 +31,5 @@ returns c wf =
     let r = wf.room in
     let m = levels_length packed in
     let all = l.invariant.0 wf in
-    unpacked packed c.args.high.now l.level l.low c.args.used (subst (λ (n : ℕ). Unpacks packed n l.level l.low) (omega (arith, c.loop-i-test.false, c.min-n.ensures)) all) (omega arith) (omega arith) wf
+    let end : l.i ≡ c.args.used = omega (arith, c.loop-i-test.false, c.min-n.ensures) in
+    unpacked packed c.args.high.now l.level l.low c.args.used (subst (λ (n : ℕ). Unpacks packed n l.level l.low) end all) (omega arith) (omega arith) wf
