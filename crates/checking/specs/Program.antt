@@ -7,6 +7,10 @@ use Rattle.checking.specs.declared.Line.{Line}
 use Rattle.checking.specs.declared.Line.TheVariants.{Equal, Different, Refused}
 use Rattle.checking.specs.declared.Lines.{Lines}
 
+-- the most bytes of a text: 64 lines of 255 bytes, two digits a byte, with their 0A
+abbrev pub max_text : ℕ
+max_text = 32704
+
 -- the entries of its table, and its limit
 abbrev pub table_length : ℕ
 table_length = 4096

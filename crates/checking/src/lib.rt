@@ -1,10 +1,10 @@
 // Reads left.hex and right.hex, compares the models, and prints the strong and the weak verdict.
 #![tactic(auto)]
 
-ghost use Rattle.std.specs.Prelude.{◌≡◌, ◌≤◌, length};
+ghost use Rattle.std.specs.Prelude.{◌≡◌, ◌<◌, ◌≤◌, length, IfSome};
 ghost use Rattle.verdicts.specs.Bisimulation.{strong, weak};
 ghost use Rattle.verdicts.specs.Contract.{values_of_verdict};
-ghost use Rattle.checking.specs.Program.{round_limit, verdict_line, line_in, Printed};
+ghost use Rattle.checking.specs.Program.{max_text, round_limit, verdict_line, line_in, Printed};
 
 use std::io::Read;
 use std::rt::Files;
@@ -49,7 +49,9 @@ impl fmt::Display for Line {
 }
 
 // Reads to the input's end: its bytes, if it ends before buf is full and no read fails.
-fn read_rest<'b, R: Read>(file: &mut R, buf: &'b mut [u8]) -> Option<&'b [u8]> {
+fn read_rest<'b, R: Read>(file: &mut R, buf: &'b mut [u8]) -> Option<&'b [u8]>
+    ensures { IfSome result (λ bytes. length bytes.now < length buf.old) }
+{
     let mut done = 0;
     // Kept: `read_to_end`, which reads it all in one call, needs a heap.
     while done < buf.len() {
@@ -63,7 +65,9 @@ fn read_rest<'b, R: Read>(file: &mut R, buf: &'b mut [u8]) -> Option<&'b [u8]> {
 }
 
 // A file's bytes, if it can be read and they are at most MAX_TEXT.
-fn text<'b>(rt: &impl Files, path: &str, buf: &'b mut [u8; MAX_TEXT + 1]) -> Option<&'b [u8]> {
+fn text<'b>(rt: &impl Files, path: &str, buf: &'b mut [u8; MAX_TEXT + 1]) -> Option<&'b [u8]>
+    ensures { IfSome result (λ bytes. length bytes.now ≤ max_text) }
+{
     let mut file = fs::open(rt, path).ok()?;
     read_rest(&mut file, buf)
 }

@@ -1,5 +1,5 @@
 -- Laws of decoding in one pass: a line may be cut anywhere, and what comes out is what decoding the whole line answers. Assumes nothing.
-use Rattle.std.proofs.Common.{◌≡◌, ℕ, zero, suc, ◌+◌, ◌-◌, ◌*◌, ◌/◌, ◌%◌, ◌<◌, ◌≤◌, min, Bool, true, false, cond, not, ◌&&◌, ◌||◌, eqb, ltb, leb, ◌⊎◌, List, [], ◌∷◌, ◌++◌, length, get_or, take, drop, set, replicate, Option, Some, None, Ok, Err, sym, refl, ap, ◌∙◌, subst, ap₂, inl, inr, add-zero, mod-eq_of_lt, add-one, arith, length-drop, drop-drop, take-append-drop, take_all, take_at, drop-cons, take-add, ltb-false, ltb-true, le-ltb, lt-ltb, eq-eqb, ne_eqb, eqb-true, le-leb, leb-false, leb-true}
+use Rattle.std.proofs.Common.{◌≡◌, ℕ, zero, suc, ◌+◌, ◌-◌, ◌*◌, ◌/◌, ◌%◌, ◌<◌, ◌≤◌, min, Bool, true, false, cond, not, ◌&&◌, ◌||◌, eqb, ltb, leb, ◌⊎◌, List, [], ◌∷◌, ◌++◌, length, get_or, take, drop, set, replicate, fold, Option, Some, None, Ok, Err, sym, refl, ap, ◌∙◌, subst, ap₂, inl, inr, add-zero, mod-eq_of_lt, add-one, arith, length-drop, drop-drop, take-append-drop, take_all, take_at, drop-cons, take-add, ltb-false, ltb-true, le-ltb, lt-ltb, eq-eqb, ne_eqb, eqb-true, le-leb, leb-false, leb-true}
 use mathlib.Core.Bool.{or-false}
 use borrow.Author.Tests.{lt-leb, eqb-false}
 use lib.Seq.{sets, sets-eq}
@@ -88,6 +88,15 @@ pub any_stray : (l : List ℕ) → list_any (λ c. not (is_hex c)) l ≡ not (al
 unfolding all
 any_stray [] = refl
 any_stray (c ∷ l) = ap (λ (b : Bool). not (is_hex c) || b) (any_stray l) ∙ or_not false (is_hex c) (all is_hex l)
+
+-- noted byte by byte, after those before
+pub stray_noted : (stray : Bool) (l : List ℕ) → fold (λ b c. b || not (is_hex c)) stray l ≡ (stray || list_any (λ c. not (is_hex c)) l)
+stray_noted stray [] = sym (or-false stray)
+stray_noted stray (c ∷ l) = stray_noted (stray || not (is_hex c)) l ∙ go stray
+  where
+    go : (s : Bool) → ((s || not (is_hex c)) || list_any (λ c. not (is_hex c)) l) ≡ (s || (not (is_hex c) || list_any (λ c. not (is_hex c)) l))
+    go true = refl
+    go false = refl
 
 -- after a second digit none waits
 pub push_even : (d : Decoder) (c : ℕ) {e : Decoder} → is_some d.half ≡ true → e ≡ pushed d c → e.half ≡ None

@@ -7,6 +7,7 @@ use Rattle.frames.specs.Summary.{max_bits, refused, taken_of}
 use Rattle.frames.specs.declared.bytes.DecodeError.{DecodeError}
 use Rattle.frames.specs.declared.bytes.DecodeError.TheVariants.{Stray, Long}
 use Rattle.frames.specs.declared.decoder.Decoder.{Decoder}
+use Rattle.frames.specs.declared.refusal.Refusal.{Refusal}
 use Rattle.frames.specs.declared.refusal.Refusal.TheVariants.{Spelling, Size}
 use Rattle.frames.specs.declared.summary.Summary.{Summary}
 use Rattle.frames.specs.declared.summary.Taken.{Taken}
@@ -54,11 +55,11 @@ unfoldable pub finished : Decoder → Result (List ℕ) DecodeError
 finished d = cond (d.stray || is_some d.half) (Err Stray) (cond (nat_le d.count max_bytes) (Ok (take d.count d.bytes)) (Err Long))
 
 -- refusal 1 for a stray byte or a digit alone, refusal 2 for more than 255 bytes, else what the bytes give
-unfoldable pub taken_by : Summary → Result (List ℕ) DecodeError → Taken
+unfoldable pub taken_by : Summary → Result (List ℕ) DecodeError → Taken Refusal
 taken_by s (Ok b) = taken_of max_bits s b
 taken_by s (Err Stray) = refused s Spelling
 taken_by s (Err Long) = refused s Size
 
 -- Reading a line from the state that its bytes left, after the lines that the summary tells of.
-unfoldable pub taken_state : Summary → Decoder → Taken
+unfoldable pub taken_state : Summary → Decoder → Taken Refusal
 taken_state s d = taken_by s (finished d)

@@ -4,3 +4,4 @@ pub mod Decoded
 pub mod Alone
 pub mod Accepted
 pub mod Lines
+pub mod Padded

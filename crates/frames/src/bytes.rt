@@ -1,6 +1,8 @@
 // The digits of a line: their values, and what decoding them answers.
-ghost use Rattle.std.specs.Prelude.{◌≡◌, ◌≤◌, ℕ, List, take, if◌then◌else◌};
+ghost use Rattle.std.specs.Prelude.{◌≡◌, ◌≤◌, ℕ, List, length, take, if◌then◌else◌};
+ghost use Rattle.std.proofs.Common.{arith, length-take-le};
 ghost use Rattle.frames.specs.Bytes.{hex_value, is_hex, max_bytes};
+ghost use Rattle.frames.specs.internal.Padded.{padded};
 
 use std::marker::Model;
 
@@ -16,7 +18,7 @@ pub enum DecodeError {
 
 // The bytes of one frame: contracts see them as a list.
 // Kept: that takes a struct with a model round the kit's `ArrayVec` too, `FrameBytes(ArrayVec<u8, 255>)`, made by `from` and then `truncate` in place of one literal.
-#[derive(Drop)]
+#[derive(Clone, Copy)]
 pub struct FrameBytes {
     bytes: [u8; MAX_BYTES],
     len: usize,
@@ -27,7 +29,12 @@ impl Model for FrameBytes {
 
     ghost view = { λ f. take f.len f.bytes };
 
-    ghost invariant = { λ f. f.len ≤ max_bytes };
+    // Zeros behind the bytes, so that these tell the whole, and a copy is the same bytes.
+    ghost invariant = { λ f. (f.len ≤ max_bytes) × (length f.bytes ≡ max_bytes) × (padded (take f.len f.bytes) ≡ f.bytes) };
+
+    ghost inverse = { λ xs. record { bytes = padded xs; len = length xs } };
+
+    ghost inverse_ok = { λ f h i. record { bytes = h.2 i; len = length-take-le f.len f.bytes (omega (arith, h.0, h.1)) i } };
 }
 
 impl FrameBytes {
@@ -36,6 +43,8 @@ impl FrameBytes {
         requires { len ≤ max_bytes }
         ensures { result ≡ take len bytes }
     {
+        let mut bytes = bytes;
+        bytes[len..].fill(0);
         FrameBytes { bytes, len }
     }
 

@@ -1,6 +1,7 @@
 // A line's digits, tested and decoded in one pass, a piece at a time.
-ghost use Rattle.std.specs.Prelude.{◌≡◌, not, if◌then◌else◌, nat_lt};
-ghost use Rattle.frames.specs.Bytes.{is_hex, all};
+ghost use Rattle.std.specs.Prelude.{◌≡◌, ◌||◌, not, is_some, if◌then◌else◌, nat_le, nat_lt, Ok, Err, MatchResult};
+ghost use Rattle.frames.specs.Bytes.{is_hex, all, max_bytes};
+ghost use Rattle.frames.specs.declared.bytes.DecodeError.TheVariants.{Stray, Long};
 ghost use Rattle.frames.specs.Decoder.{too_many, start, pushed, run, finished};
 ghost use Rattle.frames.specs.internal.Alone.{last_alone};
 ghost use Rattle.frames.specs.internal.Decoded.{decoded};
@@ -23,11 +24,13 @@ pub struct Decoder {
     pub bytes: [u8; MAX_BYTES],
 }
 
-// Whether any byte is no digit.
+// Whether any byte is no digit. It looks at all of them, so that many are looked at together; `any` stops at the first.
 fn has_stray(digits: &[u8]) -> bool
     ensures { result ≡ not (all is_hex digits.now) }
 {
-    digits.iter().any(|c| hex_value(*c).is_none())
+    digits
+        .iter()
+        .fold(false, |stray, c| stray | hex_value(*c).is_none())
 }
 
 // The value of the last digit where it is without its second.
@@ -126,10 +129,9 @@ impl Decoder {
         self.push(*first).run_even(rest)
     }
 
-    // What it says of a line that ends here: its bytes, or why there are none.
-    #[tactic(auto, unfolding(crate::specs::Decoder::finished))]
-    pub fn finish(self) -> Result<FrameBytes, DecodeError>
-        ensures { result ≡ finished self }
+    // How many bytes a line has that ends here, or why it has none.
+    fn ended(&self) -> Result<usize, DecodeError>
+        ensures { result ≡ (if self.now.stray || is_some self.now.half then Err Stray else if nat_le self.now.count max_bytes then Ok self.now.count else Err Long) }
     {
         if self.stray | self.half.is_some() {
             return Err(DecodeError::Stray);
@@ -137,7 +139,25 @@ impl Decoder {
         if MAX_BYTES < self.count {
             return Err(DecodeError::Long);
         }
-        Ok(FrameBytes::first(self.bytes, self.count))
+        Ok(self.count)
+    }
+
+    // What it says of a line that ends here: its bytes, where they stand, or why there are none. No byte is copied, so a text is read without copies.
+    #[tactic(auto, unfolding(crate::specs::Decoder::finished))]
+    pub(crate) fn spelled(&self) -> Result<&[u8], DecodeError>
+        ensures { MatchResult result (λ bytes. finished self.now ≡ Ok bytes.now) (λ error. finished self.now ≡ Err error) }
+    {
+        let len = self.ended()?;
+        Ok(&self.bytes[..len])
+    }
+
+    // The same, with the bytes as they are handed out.
+    #[tactic(auto, unfolding(crate::specs::Decoder::finished))]
+    pub fn finish(self) -> Result<FrameBytes, DecodeError>
+        ensures { result ≡ finished self }
+    {
+        let len = self.ended()?;
+        Ok(FrameBytes::first(self.bytes, len))
     }
 }
 

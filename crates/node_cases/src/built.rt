@@ -102,3 +102,36 @@ pub fn built(rt: &impl Print) -> io::Result<()> {
     };
     show_all(rt, r, table)
 }
+
+#[cfg(test)]
+mod tests {
+    use nodes::levels::Levels;
+    use nodes::manager::Manager;
+    use std::test::Fail;
+
+    // One table with three managers, one after the other: the second takes it up as the first one left it, and the third with its index alone.
+    // Each finds the function that the first one built.
+    #[test]
+    fn taken_up_again(rt: HostRuntime) -> Result<(), Fail> {
+        let lowest = Levels {
+            first: 0,
+            apart: 1,
+            count: 3,
+        };
+        let mut low = [0u32; 64];
+        let mut high = [0u32; 64];
+        let mut work = [0u32; 256];
+        let mut first = Manager::new(&mut low, &mut high, &mut work);
+        let five = first.number_is(5, lowest)?;
+        let used = first.used();
+        let mut second = Manager::resume(&mut low, &mut high, &mut work, used);
+        let again = second.number_is(5, lowest)?;
+        let still = second.used();
+        assert_eq!(rt; again, five);
+        assert_eq!(rt; still, used);
+        let mut third = Manager::with_index(&mut low, &mut high, &mut work, still);
+        assert_eq!(rt; third.number_is(5, lowest)?, five);
+        assert_eq!(rt; third.used(), used);
+        Ok(())
+    }
+}

@@ -87,7 +87,7 @@ fn settle_not(f: u32) -> Option<u32>
 
 // An entry with a level fixed to 0, and with it fixed to 1.
 #[derive(Clone, Copy)]
-pub(crate) struct Cofactors {
+pub struct Cofactors {
     pub low: u32,
     pub high: u32,
 }

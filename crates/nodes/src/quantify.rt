@@ -16,7 +16,7 @@ use super::unique::Node;
 
 // The entries of a function with a level fixed to 0, fixed to 1, and of the ∨ of the two.
 #[derive(Clone, Copy)]
-pub(crate) struct Trio {
+pub struct Trio {
     pub zero: u32,
     pub one: u32,
     pub any: u32,
