@@ -20,6 +20,13 @@ pub struct Manager<'packed, 'high, 'work> {
     pub(crate) ghost helping: { Helping (packed_table packed.now high.now used) work.now },
 }
 
+// The nodes of a table with so many entries in use: all of these but the constants.
+pub fn node_count(used: u32) -> u32
+    ensures { result ≡ used - 2 }
+{
+    used.saturating_sub(2)
+}
+
 impl<'packed, 'high, 'work> Manager<'packed, 'high, 'work> {
     // How many entries are in use.
     pub fn used(&self) -> u32
