@@ -107,6 +107,7 @@ pub fn built(rt: &impl Print) -> io::Result<()> {
 mod tests {
     use nodes::levels::Levels;
     use nodes::manager::Manager;
+    use nodes::unique::{Node, make};
     use std::test::Fail;
 
     // One table with three managers, one after the other: the second takes it up as the first one left it, and the third with its index alone.
@@ -132,6 +133,30 @@ mod tests {
         let mut third = Manager::with_index(&mut low, &mut high, &mut work, still);
         assert_eq!(rt; third.number_is(5, lowest)?, five);
         assert_eq!(rt; third.used(), used);
+        Ok(())
+    }
+
+    // A node is made by the index alone, whatever stands in the place of results: here that the negation of the constant 0 is 0. It is found
+    // when it is asked for again, and what stood there stands there still.
+    #[test]
+    fn made_by_the_index(rt: HostRuntime) -> Result<(), Fail> {
+        let mut low = [0u32; 64];
+        let mut high = [0u32; 64];
+        let mut work = [0u32; 256];
+        let first = Manager::new(&mut low, &mut high, &mut work);
+        let mut used = first.used();
+        work[252] = 3;
+        let node = Node {
+            level: 0,
+            low: 0,
+            high: 1,
+        };
+        let made = make(&mut low, &mut high, &mut work, &mut used, node)?;
+        let again = make(&mut low, &mut high, &mut work, &mut used, node)?;
+        assert_eq!(rt; made, 2);
+        assert_eq!(rt; again, made);
+        assert_eq!(rt; used, 3);
+        assert_eq!(rt; work[252], 3);
         Ok(())
     }
 }

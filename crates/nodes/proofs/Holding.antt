@@ -5,7 +5,7 @@
 use mathlib.Core.Path.{◌≡◌, refl, sym, ap, ap₂, ◌∙◌, subst, subst₂}
 use mathlib.Core.Logic.{inl, inr}
 use mathlib.Core.List.{List}
-use Prim.Native.Nat.{ℕ, ◌+◌, ◌*◌, ◌/◌, ◌%◌, ◌<◌, ◌≤◌}
+use Prim.Native.Nat.{ℕ, ◌+◌, ◌-◌, ◌*◌, ◌/◌, ◌%◌, ◌<◌, ◌≤◌}
 use native.Mathlib.Omega.{arith}
 use lib.ListN.{length, get_or, set}
 use Rattle.std.specs.Prelude.{Option, Some, None, Ok}
@@ -13,10 +13,10 @@ use Rattle.nodes.specs.declared.computed.Slot.{Slot}
 use Rattle.nodes.specs.Table.{Table, table, max_length}
 use Rattle.nodes.specs.internal.Packed.{packing, levels, packed_table}
 use Rattle.nodes.specs.internal.Parts.{covers, hashes, heads_at, memory_at, links_in, heads_in, memo_in}
-use Rattle.nodes.specs.internal.Index.{hash_of, coverage, Indexing, Linked, Linking, InIndex, Begins}
+use Rattle.nodes.specs.internal.Index.{hash_of, coverage, Indexed, Indexing, Linked, Linking, InIndex, Begins}
 use Rattle.nodes.specs.internal.Make.{Makeable, IsNode, Finds, node_fun, MadeAt, held, Makes, Lacking}
 use Rattle.nodes.specs.internal.Operate.{slots_in, Holds, Remembers}
-use Rattle.nodes.proofs.Parting.{index_fits, packed_level, packed_low, packed_again, levels_length, level_at, low_at, levels_set, lows_set, links_length, heads_length, memo_length, link_at, head_at, memo_at, same_covers, same_hashes, same_memory, links_set_link, heads_set_link, memo_set_link, links_set_head, heads_set_head, memo_set_head, links_set_memo, heads_set_memo, memo_set_memo}
+use Rattle.nodes.proofs.Parting.{index_fits, index_ends, packed_level, packed_low, packed_again, levels_length, level_at, low_at, levels_set, lows_set, links_length, heads_length, memo_length, link_at, head_at, memo_at, same_covers, same_hashes, same_memory, links_set_link, heads_set_link, memo_set_link, links_set_head, heads_set_head, memo_set_head, links_set_memo, heads_set_memo, memo_set_memo}
 use Rattle.nodes.proofs.Indexing.{coverage_none, coverage_some, coverage_le, Chained, chained_start, chained_next, chain_falls, chain_within, linked_none, linked_at}
 use Rattle.nodes.proofs.Making.{absent, made_new, made_linked}
 
@@ -44,6 +44,12 @@ module _ (work : List ℕ) where
 
   pub work_coverage : (hashes work ≡ 0 → ⊥) → coverage (heads_in work) (links_in work) ≡ covers work
   work_coverage n = coverage_some (heads_in work) (links_in work) (λ e. n (sym (heads_length work) ∙ e)) ∙ links_length work
+
+-- what is written into the last quarter, less a word, leaves the index as it is
+pub indexing_behind : (t : Table) (work : List ℕ) → Indexing t work → (i x : ℕ) → 3 * length work + 4 ≤ 4 * i → Indexing t (set work i x)
+indexing_behind t work ok i x h =
+    let at : i ≡ memory_at work + (i - memory_at work) = omega (arith, index_ends work) in
+    subst₂ (Indexed t) (sym (heads_set_memo work _ refl i _ x at)) (sym (links_set_memo work _ refl i _ x at)) ok
 
 pub begins_inside : (work : List ℕ) (v lo hi : ℕ) (head : Option ℕ) → Begins work v lo hi head → InIndex work head
 begins_inside work v lo hi (Some head) b = (omega (arith, b.1), omega (arith, b.0, b.1))

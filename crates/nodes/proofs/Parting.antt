@@ -1,7 +1,7 @@
 -- Laws of the lists that calls hold: reading and storing in a packed list, and in a part of the work list. Assumes nothing.
 use mathlib.Core.Path.{◌≡◌, refl, ap, ap₂, ◌∙◌}
 use mathlib.Core.List.{List, [], ◌∷◌, map}
-use Prim.Native.Nat.{ℕ, zero, suc, ◌+◌, ◌-◌, ◌/◌, ◌<◌, ◌≤◌, min}
+use Prim.Native.Nat.{ℕ, zero, suc, ◌+◌, ◌-◌, ◌*◌, ◌/◌, ◌<◌, ◌≤◌, min}
 use native.Mathlib.Omega.{arith}
 use lib.ListN.{length, get_or, set, take, drop, length-set, length-drop, length-map, get_or-map}
 use lib.Seq.{length-take-le, take-set-le, take-set-lt, drop-set-lt, drop-set-add, get_or-take, get_or-drop, get_or-set_other}
@@ -57,6 +57,11 @@ module _ (work : List ℕ) where
   pub index_fits : covers work + hashes work ≤ parted work
   unfolding covers hashes
   index_fits = omega arith
+
+  -- the index takes three quarters at most, so that the last words are of the memory
+  pub index_ends : 4 * memory_at work ≤ 3 * length work + 4
+  unfolding covers hashes
+  index_ends = omega arith
 
   pub links_length : length (links_in work) ≡ covers work
   unfolding links_in

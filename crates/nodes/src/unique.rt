@@ -2,7 +2,7 @@
 ghost use Rattle.std.specs.Prelude.{◌≡◌, ◌<◌, ◌≤◌, None};
 ghost use Rattle.std.specs.Bool.{Decides};
 ghost use Rattle.nodes.specs.internal.Parts.{links_in, heads_in};
-ghost use Rattle.nodes.specs.Table.{max_length};
+ghost use Rattle.nodes.specs.Table.{max_length, WellFormed};
 ghost use Rattle.nodes.specs.internal.Index.{coverage, Indexing, InIndex, Begins, LinkingAt};
 ghost use Rattle.nodes.specs.internal.Make.{Makeable, IsNode, FindsFrom, FindsBelow, Finds, Makes, IsNew, held, node_fun};
 ghost use Rattle.nodes.specs.internal.Packed.{packing, packed_table};
@@ -76,7 +76,18 @@ fn add(
     Ok(i)
 }
 
-impl<'packed, 'high, 'work> Manager<'packed, 'high, 'work> {
+// The unique table, to be searched: a table in two slices, and a work slice whose index is right. Of what stands behind the index nothing is said.
+#[derive(Clone, Copy)]
+struct UniqueTable<'a> {
+    packed: &'a [u32],
+    high: &'a [u32],
+    work: &'a [u32],
+    used: u32,
+    ghost formed: { WellFormed (packed_table packed.now high.now used) },
+    ghost indexing: { Indexing (packed_table packed.now high.now used) work.now },
+}
+
+impl<'a> UniqueTable<'a> {
     // Where the chain of a node begins: the place of its head in `work`, if the index has heads.
     fn head_of(&self, node: Node) -> Option<usize>
         ensures { Begins self.now.work.now node.level node.low node.high result }
@@ -91,7 +102,7 @@ impl<'packed, 'high, 'work> Manager<'packed, 'high, 'work> {
     // Whether the node is entry i.
     fn is_at(&self, node: Node, i: u32) -> bool
         requires { (node.low < max_length) × (2 ≤ i) × (i < self.now.used) }
-        ensures { Decides result (IsNode (table_of self.now) node.level node.low node.high i) }
+        ensures { Decides result (IsNode (packed_table self.now.packed.now self.now.high.now self.now.used) node.level node.low node.high i) }
     {
         let at = i as usize;
         self.packed[at] == node.word() && self.high[at] == node.high
@@ -100,7 +111,7 @@ impl<'packed, 'high, 'work> Manager<'packed, 'high, 'work> {
     // The node, if it is one of the entries from `from` on.
     fn find_from(&self, from: usize, node: Node) -> Option<u32>
         requires { node.low < max_length }
-        ensures { FindsFrom from (table_of self.now) node.level node.low node.high result }
+        ensures { FindsFrom from (packed_table self.now.packed.now self.now.high.now self.now.used) node.level node.low node.high result }
     {
         if (self.used as usize) <= from {
             return None;
@@ -113,7 +124,7 @@ impl<'packed, 'high, 'work> Manager<'packed, 'high, 'work> {
     fn find_chained(&self, head: Option<usize>, node: Node) -> Option<u32>
         requires begins { Begins self.now.work.now node.level node.low node.high head }
         requires low_fits { node.low < max_length }
-        ensures { FindsBelow (coverage (heads_in self.now.work.now) (links_in self.now.work.now)) (table_of self.now) node.level node.low node.high result }
+        ensures { FindsBelow (coverage (heads_in self.now.work.now) (links_in self.now.work.now)) (packed_table self.now.packed.now self.now.high.now self.now.used) node.level node.low node.high result }
     {
         let mut i = self.work[head?];
         // Kept: a chain gives the next entry, not a count.
@@ -131,7 +142,7 @@ impl<'packed, 'high, 'work> Manager<'packed, 'high, 'work> {
     fn find(&self, head: Option<usize>, node: Node) -> Option<u32>
         requires begins { Begins self.now.work.now node.level node.low node.high head }
         requires low_fits { node.low < max_length }
-        ensures { Finds (table_of self.now) node.level node.low node.high result }
+        ensures { Finds (packed_table self.now.packed.now self.now.high.now self.now.used) node.level node.low node.high result }
     {
         let found = self.find_chained(head, node);
         if found.is_some() {
@@ -139,28 +150,45 @@ impl<'packed, 'high, 'work> Manager<'packed, 'high, 'work> {
         }
         self.find_from(covered(self.work), node)
     }
+}
 
-    // The entry of the function that is the high child's where the node's level is true and the low child's elsewhere: a node is made only
-    // where there is none.
+// The entry of the function that is the high child's where the node's level is true and the low child's elsewhere: a node is made only
+// where there is none. It asks of the work slice that its index is right, and leaves what stands in the place of results as it is.
+// Kept: a function of slices, beside the method of a manager, whose memory of results is right, too.
+pub fn make(
+    packed: &mut [u32],
+    high: &mut [u32],
+    work: &mut [u32],
+    used: &mut u32,
+    node: Node,
+) -> Result<u32, Full>
+    requires makeable { Makeable (packed_table packed.old high.old used.old) node.level node.low node.high }
+    requires indexing { Indexing (packed_table packed.old high.old used.old) work.old }
+    ensures { Makes (held packed.old high.old work.old used.old) (held packed.new high.new work.new used.new) (node_fun (packed_table packed.old high.old used.old) node.level node.low node.high) result }
+{
+    if node.low == node.high {
+        return Ok(node.low);
+    }
+    let table = UniqueTable {
+        packed,
+        high,
+        work,
+        used: *used,
+    };
+    let head = table.head_of(node);
+    if let Some(i) = table.find(head, node) {
+        return Ok(i);
+    }
+    add(packed, high, work, used, head, node)
+}
+
+impl<'packed, 'high, 'work> Manager<'packed, 'high, 'work> {
+    // The same in a manager.
     pub fn make(&mut self, node: Node) -> Result<u32, Full>
         requires { Makeable (table_of self.old) node.level node.low node.high }
         ensures kept { Keeps (entering self.old) (leaving self.new result) }
         ensures makes { Makes (held_by self.old) (held_by self.new) (node_fun (table_of self.old) node.level node.low node.high) result }
     {
-        if node.low == node.high {
-            return Ok(node.low);
-        }
-        let head = self.head_of(node);
-        if let Some(i) = self.find(head, node) {
-            return Ok(i);
-        }
-        add(
-            self.packed,
-            self.high,
-            self.work,
-            &mut self.used,
-            head,
-            node,
-        )
+        make(self.packed, self.high, self.work, &mut self.used, node)
     }
 }

@@ -1,7 +1,7 @@
--- `nodes::head_of` meets its contract. Assumes nothing.
+-- `nodes::unique::UniqueTable::head_of` meets its contract. Assumes nothing.
 use native.Mathlib.Omega.{arith}
 use Rattle.nodes.proofs.Parting.{index_fits}
-use Rattle.nodes.proofs.manager.Manager.head_of.Goals as goal
+use Rattle.nodes.proofs.unique.UniqueTable.head_of.Goals as goal
 
 pub overflow_add-result : goal.overflow_add-result
 overflow_add-result c =

@@ -1,10 +1,10 @@
--- `nodes::is_at` meets its contract. Assumes nothing.
+-- `nodes::unique::UniqueTable::is_at` meets its contract. Assumes nothing.
 use mathlib.Core.Path.{◌∙◌, sym}
 use native.Mathlib.Omega.{arith}
 use borrow.Author.Tests.{eqb-true, eq-eqb}
 use Rattle.nodes.proofs.Parting.{levels_length}
 use Rattle.nodes.proofs.Holding.{node_there, node_word}
-use Rattle.nodes.proofs.manager.Manager.is_at.Goals as goal
+use Rattle.nodes.proofs.unique.UniqueTable.is_at.Goals as goal
 
 pub bounds-self-at : goal.bounds-self-at
 bounds-self-at c =
