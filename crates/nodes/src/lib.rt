@@ -4,6 +4,7 @@
 // Only this crate knows that layout and makes a `Manager`. Others begin with `Manager::new`, or with a table that stands in the slices, by
 // `Manager::resume` or, where only the index of `work` is known to serve it, `Manager::with_index`; they work with the manager's methods,
 // each of which answers an entry, or `Full` where the table is too short, and end with `unpack`, which leaves document 01's three slices.
+// `unique::make` makes one node in slices that no manager holds, by the index alone, and leaves what stands behind the index.
 #![tactic(auto)]
 
 pub mod apply;
