@@ -26,7 +26,7 @@ pub shifted_digit : (n k : ℕ) (r : Option ℕ) → n < 2 ^ 64 → SomeIff r (k
 shifted_digit n k (Some m) h e = ap (λ x. eqb (x % 2) 1) e.1 ∙ bit_is_bit_at n k
 shifted_digit n k None h e = sym (bit_above n k h (omega (arith, e)))
 
-bit_none : (k : ℕ) → bit 0 k ≡ false
+pub bit_none : (k : ℕ) → bit 0 k ≡ false
 bit_none zero = refl
 bit_none (suc k) = bit_none k
 

@@ -216,7 +216,7 @@ module _ (packed high work : List ℕ) (used v lo hi : ℕ) (ok : Makeable (pack
   abbrev here : Table
   here = packed_table packed high used
 
-  child_small : lo < max_length
+  pub child_small : lo < max_length
   child_small = let a = ok.low_used in let wf = ok.formed in let b = wf.room in let c = wf.most in omega arith
 
   module _ (differ : lo ≡ hi → ⊥) (none : Finds here v lo hi None) where

@@ -86,7 +86,7 @@ pub record Next (t t₁ t₂ : Table) (fs : List Fun) (h : Fun) (i : ℕ) : Type
   pub kept : (k : ℕ) (f : Fun) → Entry t₁ k f → Entry t₂ k f
 
 module _ {t t₁ : Table} {fs : List Fun} {v lo hi : ℕ} (ok : Makeable t v lo hi) (added : Added t t₁ fs) where
-  makeable_kept : Makeable t₁ v lo hi
+  pub makeable_kept : Makeable t₁ v lo hi
   makeable_kept =
       let x = added.extends in
       let l = x.longer in
@@ -122,7 +122,7 @@ module _ (h₁ h₂ : Held) {t : Table} {fs : List Fun} {v lo hi : ℕ} (ok : Ma
   within_fs : Within fs fs
   within_fs f m = (f, m, part_refl f)
 
-  made_next : (i : ℕ) → makes (Ok i) → Next t (held_table h₁) (held_table h₂) fs (node_fun t v lo hi) i
+  pub made_next : (i : ℕ) → makes (Ok i) → Next t (held_table h₁) (held_table h₂) fs (node_fun t v lo hi) i
   made_next i x =
       let b = answers (Ok i) x in
       record {
@@ -131,10 +131,10 @@ module _ (h₁ h₂ : Held) {t : Table} {fs : List Fun} {v lo hi : ℕ} (ok : Ma
         kept = entry_kept added.formed b.grown.extends;
       }
 
-  made_lacks : (e : Full) → makes (Err e) → Lacks t (held_table h₂) fs
+  pub made_lacks : (e : Full) → makes (Err e) → Lacks t (held_table h₂) fs
   made_lacks e x = lacks_after within_fs within_same_fun added (lacks_short added.formed (answers (Err e) x))
 
-made_three : {t t₁ t₂ t₃ : Table} {h : Funs} {i j k : ℕ} → Next t t t₁ (listed h) h.zero i → Next t t₁ t₂ (listed h) h.one j
+pub made_three : {t t₁ t₂ t₃ : Table} {h : Funs} {i j k : ℕ} → Next t t t₁ (listed h) h.zero i → Next t t₁ t₂ (listed h) h.one j
     → Next t t₂ t₃ (listed h) h.any k → Trebled t t₃ h (record { zero = i; one = j; any = k })
 made_three {h = h} {i} {j} x y z = record {
   added = z.added;
@@ -461,7 +461,7 @@ has_three h r x f m = ⊎_elim
 
 module _ {s s' : Store} where
   -- the answer, as what was done
-  quantified : (h : Funs) (r : Result Trio Full) → s.full ≡ false → s'.full ≡ is_err r → Trebles s.table s'.table h r
+  pub quantified : (h : Funs) (r : Result Trio Full) → s.full ≡ false → s'.full ≡ is_err r → Trebles s.table s'.table h r
       → Does s s' (listed h) × Stands s' (any_of r) h.any
   quantified h (Ok r) e k x = (grew e k (record { added = x.added; has = has_three h r x }), λ _. x.any)
   quantified h (Err _) e k x = (filled e k x, λ o. contrary k o)

@@ -7,7 +7,7 @@ use lib.ListN.{get_or, set}
 use lib.Seq.{get_or-set_other}
 use Rattle.nodes.specs.Table.{max_length}
 use Rattle.nodes.proofs.Parting.{levels_length}
-use Rattle.nodes.proofs.Starting.{Unpacks, unpacked_byte, unpacked_next, unpacked}
+use Rattle.nodes.proofs.Starting.{Unpacks, level_byte, unpacked_byte, unpacked_next, unpacked}
 use Rattle.nodes.proofs.start.unpack.Goals as goal
 
 pub loop-i-preserved : goal.loop-i-preserved
@@ -19,7 +19,7 @@ loop-i-preserved c =
     let inside : l.i < used = omega (arith, c.loop-i-test.true, c.min-n.ensures) in
     let same = v.1 l.i (omega arith) in (
       λ wf. subst (λ (x : ℕ). Unpacks packed (l.i + 1) (set l.level l.i x) (set l.low l.i (get_or l.low l.i 0 % max_length)))
-          (omega (arith, unpacked_byte packed c.args.high.now l.low used l.i wf inside same))
+          (omega (arith, unpacked_byte packed l.low l.i same (level_byte wf l.i inside)))
           (unpacked_next packed l.level l.low l.i (omega arith) (omega arith) same (v.0 wf)),
       λ k h. get_or-set_other l.low l.i k _ 0 (λ e. omega arith) ∙ v.1 k (omega arith),
     )
