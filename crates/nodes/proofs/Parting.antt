@@ -58,7 +58,7 @@ module _ (work : List ℕ) where
   unfolding covers hashes
   index_fits = omega arith
 
-  -- the index takes three quarters, and a word, at most: of two words or more the last one is of the memory
+  -- the index ends in the first three quarters, or a word behind them
   pub index_ends : 4 * memory_at work ≤ 3 * length work + 4
   unfolding covers hashes
   index_ends = omega arith
