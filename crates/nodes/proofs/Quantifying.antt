@@ -12,7 +12,7 @@ use mathlib.Core.List.Memᴰ
 use mathlib.Core.List.{List, [], ◌∷◌, Memᴰ}
 use Prim.Native.Nat.{ℕ, suc, ◌<◌, ◌≤◌}
 use native.Mathlib.Omega.{arith}
-use Rattle.std.specs.Prelude.{Some, Result, Ok, Err, IsErr, is_err}
+use Rattle.std.specs.Prelude.{length, Some, Result, Ok, Err, IsErr, is_err}
 use Rattle.nodes.specs.declared.apply.Operation.TheVariants.{Or}
 use Rattle.nodes.specs.declared.levels.Level.{Level}
 use Rattle.nodes.specs.declared.manager.Full.{Full}
@@ -21,15 +21,16 @@ use Rattle.nodes.specs.declared.quantify.Trio.{Trio}
 use Rattle.nodes.specs.Fun.{Fun, either, fixed, exists, Part, From}
 use Rattle.nodes.specs.Formula.{some}
 use Rattle.nodes.specs.Table.{Table, last_level, level_of, choice, den, WellFormed, Entry}
-use Rattle.nodes.specs.internal.Growth.{Extends, Built, Short, Answers}
-use Rattle.nodes.specs.internal.Make.{Makeable, node_fun, Held, held_table, Makes}
+use Rattle.nodes.specs.internal.Growth.{Extends, Absent, Built, Short}
+use Rattle.nodes.specs.internal.Make.{Makeable, node_fun, MadeAt, Held, held_table, Makes}
 use Rattle.nodes.specs.internal.Lent.{table_of, store, leaving}
 use Rattle.nodes.specs.internal.Operate.{operation, Cofactor, Quantified, quantifying, Recalls, Remembered, quantified_level, quantified_entry}
 use Rattle.nodes.specs.internal.Work.{Added, Has, Lacks, Store, Keeps, Does, grew, filled, Stands, Maps}
 use Rattle.nodes.specs.internal.Quantify.{Funs, listed, results_of, Trebled, MakeableThree, node_funs, RecalledThree, MeantThree, Trebles, Trebling}
 use Rattle.nodes.proofs.Funs.{shannon, from_put, from_fixed, part_fixed, part_refl}
 use Rattle.nodes.proofs.Tables.{den_from, den_extends}
-use Rattle.nodes.proofs.Making.{answered}
+use Rattle.nodes.proofs.Parting.{levels_length}
+use Rattle.nodes.proofs.Making.{short}
 use Rattle.nodes.proofs.Stepping.{level_above}
 use Rattle.nodes.proofs.Operating.{put_put, from_fixed_at}
 use Rattle.nodes.proofs.Memory.{recalls}
@@ -108,31 +109,38 @@ module _ {t t₁ : Table} {fs : List Fun} {v lo hi : ℕ} (ok : Makeable t v lo 
   same_fun : node_fun t₁ v lo hi ≡ node_fun t v lo hi
   same_fun = let same = den_extends t added.began t₁ added.extends in ap₂ (choice v) (same hi ok.high_used) (same lo ok.low_used)
 
--- a node that is made from the lists h₁, which leaves h₂
+  -- a node that is made in t₁, which leaves t₂
+  module _ (inside : Memᴰ (node_fun t v lo hi) fs) where
+    within_same_fun : Within (node_fun t₁ v lo hi ∷ []) fs
+    within_same_fun = subst (λ (h : Fun). Within (h ∷ []) fs) (sym same_fun) (within_some (node_fun t v lo hi) fs inside)
+
+    within_fs : Within fs fs
+    within_fs f m = (f, m, part_refl f)
+
+    pub next_made : {t₂ : Table} (i : ℕ) → MadeAt t₁ t₂ (node_fun t₁ v lo hi) i → Next t t₁ t₂ fs (node_fun t v lo hi) i
+    next_made i x =
+        let b = x.built in
+        record {
+          added = added_then within_fs within_same_fun added (grows_built added.formed b).added;
+          entry = (b.found, b.stands ∙ same_fun);
+          kept = entry_kept added.formed b.grown.extends;
+        }
+
+    -- or the table is full
+    pub lacks_made : t₁.used ≡ length t₁.level → Absent t₁ (node_fun t₁ v lo hi) → Lacks t t₁ fs
+    lacks_made full absent = lacks_after within_fs within_same_fun added (lacks_short added.formed (short t₁ v lo hi makeable_kept full absent))
+
+-- from the lists h₁, which leaves h₂
 module _ (h₁ h₂ : Held) {t : Table} {fs : List Fun} {v lo hi : ℕ} (ok : Makeable t v lo hi) (added : Added t (held_table h₁) fs) (inside : Memᴰ (node_fun t v lo hi) fs) where
   abbrev makes : Result ℕ Full → Type 0
   makes r = Makes h₁ h₂ (node_fun (held_table h₁) v lo hi) r
 
-  answers : (r : Result ℕ Full) → makes r → Answers (held_table h₁) (held_table h₂) (node_fun (held_table h₁) v lo hi) r
-  answers r x = answered h₁ h₂ v lo hi (makeable_kept ok added) r x
-
-  within_same_fun : Within (node_fun (held_table h₁) v lo hi ∷ []) fs
-  within_same_fun = subst (λ (h : Fun). Within (h ∷ []) fs) (sym (same_fun ok added)) (within_some (node_fun t v lo hi) fs inside)
-
-  within_fs : Within fs fs
-  within_fs f m = (f, m, part_refl f)
-
   pub made_next : (i : ℕ) → makes (Ok i) → Next t (held_table h₁) (held_table h₂) fs (node_fun t v lo hi) i
-  made_next i x =
-      let b = answers (Ok i) x in
-      record {
-        added = added_then within_fs within_same_fun added (grows_built added.formed b).added;
-        entry = (b.found, b.stands ∙ same_fun ok added);
-        kept = entry_kept added.formed b.grown.extends;
-      }
+  made_next i x = next_made ok added inside i x.0
 
   pub made_lacks : (e : Full) → makes (Err e) → Lacks t (held_table h₂) fs
-  made_lacks e x = lacks_after within_fs within_same_fun added (lacks_short added.formed (answers (Err e) x))
+  made_lacks e x = subst (λ (u : Held). Lacks t (held_table u) fs) (sym x.same)
+      (lacks_made ok added inside (x.full ∙ sym (levels_length h₁.packed)) x.absent)
 
 pub made_three : {t t₁ t₂ t₃ : Table} {h : Funs} {i j k : ℕ} → Next t t t₁ (listed h) h.zero i → Next t t₁ t₂ (listed h) h.one j
     → Next t t₂ t₃ (listed h) h.any k → Trebled t t₃ h (record { zero = i; one = j; any = k })

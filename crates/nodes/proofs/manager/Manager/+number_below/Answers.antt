@@ -1,7 +1,7 @@
 -- `nodes::number_below` meets its contract, digit by digit. Assumes nothing.
 use mathlib.Core.Path.{refl}
 use lib.Dec.{ltb}
-use Rattle.nodes.proofs.Singles.{lists_constant, no_digits_below, lists_chosen, first_fits}
+use Rattle.nodes.proofs.Singles.{lists_constant, no_digits_below, rest_chosen, first_fits}
 use Rattle.nodes.proofs.Stopping.{full_lists, full_chooses, stopped_lists}
 use Rattle.nodes.proofs.manager.Manager.+number_below.Goals as goal
 
@@ -13,14 +13,14 @@ returns-in_err-low t c =
     let a = c.args in
     let r = c.from_residual in
     stopped_lists c.number_below.new.self r.result r.ensures.0
-    (lists_chosen a.levels c.rest.result c.rest.result {j = 0} c.if-levels-eq0.false c.rest.ensures c.rest.ensures a.n c.in_err-low.ensures (full_lists refl) (full_chooses refl))
+    (rest_chosen {j = 0} a.levels c.rest.result c.rest.result c.if-levels-eq0.false c.rest.ensures c.rest.ensures a.n c.in_err-low.ensures (full_lists refl) (full_chooses refl))
 
 pub returns-in_err-high : goal.returns-in_err-high
 returns-in_err-high t c =
     let a = c.args in
     let r = c.from_residual-in_err-high in
     stopped_lists c.number_below-2.new.self r.result r.ensures.0
-    (lists_chosen a.levels c.rest.result c.rest-2.result c.if-levels-eq0.false c.rest.ensures c.rest-2.ensures a.n c.in_ok-low.ensures c.in_err-high.ensures (full_chooses refl))
+    (rest_chosen a.levels c.rest.result c.rest-2.result c.if-levels-eq0.false c.rest.ensures c.rest-2.ensures a.n c.in_ok-low.ensures c.in_err-high.ensures (full_chooses refl))
 
 pub invariant_of-v : goal.invariant_of-v
 invariant_of-v t c = record { fits = first_fits c.args.levels c.if-levels-eq0.false }
@@ -28,4 +28,4 @@ invariant_of-v t c = record { fits = first_fits c.args.levels c.if-levels-eq0.fa
 pub returns : goal.returns
 returns t c =
     let a = c.args in
-    lists_chosen a.levels c.rest.result c.rest-2.result c.if-levels-eq0.false c.rest.ensures c.rest-2.ensures a.n c.in_ok-low.ensures c.in_ok-high.ensures c.node.ensures
+    rest_chosen a.levels c.rest.result c.rest-2.result c.if-levels-eq0.false c.rest.ensures c.rest-2.ensures a.n c.in_ok-low.ensures c.in_ok-high.ensures c.node.ensures
