@@ -1,6 +1,7 @@
 -- What the lists that a call holds say of its table, of the index and of the memory of results. Assumes nothing.
 --     node_there, node_word     a node by its packed number
---     work-..                   laws of the index and of the memory, for the work list
+--     work_..                   laws of the index and of the memory, for the work list
+--     indexing_behind           what is written behind the index leaves it as it is
 --     packed_new, packed_full   a node that is made in packed lists
 use mathlib.Core.Path.{◌≡◌, refl, sym, ap, ap₂, ◌∙◌, subst, subst₂}
 use mathlib.Core.Logic.{inl, inr}

@@ -47,7 +47,7 @@ fn link(work: &mut [u32], used: u32, head: Option<usize>)
 }
 
 // Writes a node that the table lacks to the first entry that is not in use, and puts it into the chain that begins at `head`.
-// Kept: the manager's fields are lent here one by one, since what its ghost fields say does not hold before all of them are written.
+// Kept: slices and the count, as `make` has them: what a manager's ghost fields say does not hold before all of them are written.
 fn add(
     packed: &mut [u32],
     high: &mut [u32],
